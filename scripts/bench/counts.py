@@ -47,9 +47,11 @@ def event_file(room, players):
 print("millions of instructions")
 print(f"512 enrolments: {count([], enrolled(512, ROUNDS)):.1f}")
 print(f"512 players over nine rounds: {count([], played(512, ROUNDS)):.1f}")
+print(f"`standings` after them: {one_more(played(512, ROUNDS), 'standings'):.1f}")
 with tempfile.TemporaryDirectory() as room:
     path = event_file(room, 512)
     print(f"`players` over a file of 512 players after nine rounds: {count(['players', path]):.1f}")
+    print(f"`standings` over the same file: {count(['standings', path]):.1f}")
     print(f"`correct` over the same file: {count(['correct', path, '9', '1', '2', '0', '0']):.1f}")
 for players in (64, 128, 256, 512):
     whole, cut = played(players, ROUNDS), played(players, ROUNDS, 8)

@@ -2,17 +2,19 @@
 
 A definition is an `abbrev`, an `unfoldable`, a record or a data type of a `specs/` file. It rests on each definition that its text names, by an import,
 a module's short name or in its own file; a function's contract on those that its clauses name. What comes from source, as a struct, and what is the
-kit's, is not counted. With `--names` each definition is named, with its lines.
+kit's, is not counted. With `--names` each definition is named, with its lines. With `--twice` it names those that two modules call alike, and asks for
+none.
 """
 import argparse
 import collections
 import glob
 import os
 import re
+import sys
 
 from scripts import TOP
 
-HEAD = re.compile(r"^(  )*(?:abbrev |unfoldable )?(?:pub )?(?:(?:record|data) (\w+)|([\w']+) *:)")
+HEAD = re.compile(r"^(  )*(?:abbrev |unfoldable )?(?:pub )?(?:(?:record|data) (\w+)(?! \{$)|([\w']+) *:)")
 USE = re.compile(r"^(?:ghost )?use (?:Rattle|crate)\.([\w.]+?)(?:\.(\{.*\}))?(?: as (\w+))?;?$")
 WORD = re.compile(r"[A-Za-z_][\w']*(?:\.[A-Za-z_][\w']*)*")
 
@@ -88,13 +90,30 @@ def of_function(crate, function, found):
     return set()
 
 
+def called_alike(found):
+    """The names that two definitions of specs/ have, each with where they are."""
+    places = collections.defaultdict(list)
+    for at in found:
+        places[at.rsplit(".", 1)[1]].append(at)
+    return {name: at for name, at in sorted(places.items()) if len(at) > 1}
+
+
 def main():
     words = argparse.ArgumentParser(description="Counts the definitions that the contract of a function rests on.")
-    words.add_argument("crate")
-    words.add_argument("function")
+    words.add_argument("crate", nargs="?")
+    words.add_argument("function", nargs="?")
     words.add_argument("--names", action="store_true", help="name each of them, with its lines")
+    words.add_argument("--twice", action="store_true", help="name the definitions that two modules call alike, in place of all that")
     said = words.parse_args()
     found = read_specs()
+    if said.twice:
+        alike = called_alike(found)
+        for name, at in alike.items():
+            print(f"{name}: {', '.join(at)}")
+        print(f"{len(found)} definitions of specs, {len(alike)} names stand for two")
+        return 1 if alike else 0
+    if not said.function:
+        words.error("name a crate and a function of it, or --twice")
     reached, left = set(), of_function(said.crate, said.function, found)
     while left:
         at = left.pop()
@@ -111,7 +130,8 @@ def main():
     for crate in sorted(count, key=lambda it: -count[it]):
         print(f"{crate}: {count[crate]} definitions, {size[crate]} lines")
     print(f"all: {sum(count.values())} definitions, {sum(size.values())} lines")
+    return 0
 
 
 if __name__ == "__main__":
-    main()
+    sys.exit(main())

@@ -7,8 +7,8 @@ use Rattle.er_event.specs.{declared.refusals.Refusal.TheVariants.{Memory}}
 use Rattle.er_paper.specs.Texts.{rows_text}
 use Rattle.er_rank.specs.declared.rows.Row.{Row}
 use Rattle.er_store.specs.{Calls.OrFails, Slip.FindsSlipOrFails}
-use Rattle.er_desk.specs.{Desk.{DeskState, Turn, ReadsRows, ShowsEvent, point_of}, Headline.AreTheStandings, Migrating.Migrates}
-use Rattle.er_desk.specs.Reply.{Reply, IsLawful, receipt}
+use Rattle.er_desk.specs.{Desk.{DeskState, Outcome, ReadsRows, ShowsEvent, point_of}, Headline.AreTheStandings, Migrating.Migrates}
+use Rattle.er_desk.specs.Reply.{Reply, IsLawfulReply, receipt}
 use Rattle.er_answers.specs.declared.question.{View.View, Told.Told}
 use Rattle.er_answers.specs.declared.question.Question.TheVariants.{Submit, Standings, Show, Slip as SlipOf, Migrate}
 use Rattle.er_answers.specs.declared.question.Told.TheVariants.{Accepted, Text, Refused}
@@ -21,11 +21,11 @@ replies_are_told (Err why) = refl
 
 -- ---- a command
 
-lawful_turn : (old new : DeskState) (c : Command) (r : Reply) → Turn old c r new → IsFalse old.needs_reopen
-    → IsLawful old.version old.event old.serial c r
+lawful_turn : (old new : DeskState) (c : Command) (r : Reply) → Outcome old c r new → IsFalse old.needs_reopen
+    → IsLawfulReply old.version old.event old.serial c r
 lawful_turn old new c r h1 runs = grind (arith, common_steps)
 
-pub submitted : (Represented : Type 0) (old new : DeskState) (command : Command) (reply : Reply) → Turn old command reply new
+pub submitted : (Represented : Type 0) (old new : DeskState) (command : Command) (reply : Reply) → Outcome old command reply new
     → AnswersDesk Represented old (Submit command) (reply_told reply) new
 submitted Represented old new command reply turn = record {
   does = (reply, turn, refl);

@@ -7,7 +7,7 @@ use Rattle.er_event.specs.declared.slips.SlipRow.{SlipRow}
 use Rattle.er_rank.specs.declared.rows.Row.{Row}
 use Rattle.er_desk.specs.declared.desk.Desk.{Desk}
 use Rattle.er_desk.specs.Asking.{Asks}
-use Rattle.er_desk.specs.Desk.{DeskState, Turn, ReadsRows, ReadsSlip, ShowsEvent, desk_state, point_of}
+use Rattle.er_desk.specs.Desk.{DeskState, Outcome, ReadsRows, ReadsSlip, ShowsEvent, desk_state, point_of}
 use Rattle.er_desk.specs.Migrating.{Migrates, MovesDesk}
 use Rattle.er_desk.specs.Reply.{Reply}
 use Rattle.er_desk.specs.Run.{Session, session_of, no_session}
@@ -20,7 +20,7 @@ use Rattle.er_answers.specs.declared.question.Told.TheVariants.{Accepted, Text, 
 
 -- What the desk does, whatever its tables hold. What shows its event leaves it as it is.
 abbrev pub DoesAsked : DeskState → Question → Told → DeskState → Type 0
-DoesAsked old (Submit command) told new = (reply : Reply) × Turn old command reply new × (told ≡ reply_told reply)
+DoesAsked old (Submit command) told new = (reply : Reply) × Outcome old command reply new × (told ≡ reply_told reply)
 DoesAsked old Standings told new =
     (read : Result (Vec Row Global) Refusal) × ReadsRows old read new × IsRowsTold old.event read told
 DoesAsked old (Show view) told new = ShowsEvent Refused old (ShowsView view) told × (new ≡ old)

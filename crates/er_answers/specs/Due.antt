@@ -7,7 +7,7 @@ use Rattle.er_rank.specs.declared.rows.Row.{Row}
 use Rattle.er_store.specs.Fault.{IsFault}
 use Rattle.er_desk.specs.Desk.{Point}
 use Rattle.er_desk.specs.Headline.{AreTheStandings}
-use Rattle.er_desk.specs.Reply.{Reply, IsDue, IsLawful, receipt}
+use Rattle.er_desk.specs.Reply.{Reply, IsDue, IsLawfulReply, receipt}
 use Rattle.er_answers.specs.Question.{reply_told, slip_told, text_told, view_text}
 use Rattle.er_answers.specs.declared.question.Question.{Question}
 use Rattle.er_answers.specs.declared.question.Question.TheVariants.{Submit, Standings, Show, Slip, Migrate}
@@ -32,5 +32,5 @@ OrFault Is told = Is ⊎ ((why : Refusal) × IsFault why × (told ≡ Refused wh
 -- What is answered: what is due, or a fault of memory or of the device. A command gets a fault of the device only in place of a receipt.
 abbrev pub IsAnswerAt : ℕ → Point → Question → Told → Type 0
 IsAnswerAt version point (Submit command) told =
-    (reply : Reply) × IsLawful version point.event point.serial command reply × (told ≡ reply_told reply)
+    (reply : Reply) × IsLawfulReply version point.event point.serial command reply × (told ≡ reply_told reply)
 IsAnswerAt version point question told = OrFault (IsDueAt version point question told) told

@@ -1,6 +1,6 @@
 ghost use Rattle.std.specs.Prelude.{◌≡◌, ◌⊎◌, None, Some, IfOk, IsFalse, MatchResult, option_map};
 ghost use Rattle.sqlite.specs.State.{HasCleanDisk};
-ghost use Rattle.er_desk.specs.Desk.{ShowsEvent, ShowsOwn, desk_state, state};
+ghost use Rattle.er_desk.specs.Desk.{ShowsEvent, HoldsOwnEvent, desk_state, state};
 ghost use Rattle.er_paper.specs.Texts.{rows_text};
 ghost use Rattle.er_answers.specs.Question.{IsRowsTold, IsSlipTold, ShowsView, reply_told, text_told, view_text};
 ghost use Rattle.er_answers.specs.Answers.{AsksFor, AnswersDesk};
@@ -78,7 +78,8 @@ fn rows_told<S: Alter>(alloc: Global, desk: &Desk<S>, rows: &[Row]) -> Told
 
 /// The standings, by the totals in the tables.
 fn standings<S: Alter>(alloc: Global, desk: &mut Desk<S>) -> Told
-    ensures answers { AnswersDesk (HasCleanDisk (state S.Store desk.new) × ShowsOwn S.Store desk.old)
+    ensures answers { AnswersDesk
+        (HasCleanDisk (state S.Store desk.new) × HoldsOwnEvent S.Store desk.old)
         (desk_state desk.old) question.Standings result (desk_state desk.new) }
     ensures asked { AsksFor S.Store desk.old question.Standings result desk.new }
 {
@@ -103,7 +104,8 @@ fn slip_told(alloc: Global, read: Result<SlipRow, Refusal>) -> Told
 }
 
 fn slip<S: Alter>(alloc: Global, desk: &mut Desk<S>, round: u8, table: u16) -> Told
-    ensures answers { AnswersDesk (HasCleanDisk (state S.Store desk.new) × ShowsOwn S.Store desk.old)
+    ensures answers { AnswersDesk
+        (HasCleanDisk (state S.Store desk.new) × HoldsOwnEvent S.Store desk.old)
         (desk_state desk.old) (question.Slip round table) result (desk_state desk.new) }
     ensures asked { AsksFor S.Store desk.old (question.Slip round table) result desk.new }
 {
@@ -113,7 +115,8 @@ fn slip<S: Alter>(alloc: Global, desk: &mut Desk<S>, round: u8, table: u16) -> T
 
 /// Moves the tables to version 2, and answers with the serial, which stays.
 fn migrate<S: Alter>(desk: &mut Desk<S>) -> Told
-    ensures answers { AnswersDesk (HasCleanDisk (state S.Store desk.new) × ShowsOwn S.Store desk.old)
+    ensures answers { AnswersDesk
+        (HasCleanDisk (state S.Store desk.new) × HoldsOwnEvent S.Store desk.old)
         (desk_state desk.old) question.Migrate result (desk_state desk.new) }
     ensures asked { AsksFor S.Store desk.old question.Migrate result desk.new }
 {
@@ -125,7 +128,8 @@ fn migrate<S: Alter>(desk: &mut Desk<S>) -> Told
 
 /// What a desk answers. Only a command and a migration change its event or its tables; a fault of its store stops it.
 pub fn ask<S: Alter>(alloc: Global, desk: &mut Desk<S>, question: Question) -> Told
-    ensures answers { AnswersDesk (HasCleanDisk (state S.Store desk.new) × ShowsOwn S.Store desk.old)
+    ensures answers { AnswersDesk
+        (HasCleanDisk (state S.Store desk.new) × HoldsOwnEvent S.Store desk.old)
         (desk_state desk.old) question result (desk_state desk.new) }
     ensures asked { AsksFor S.Store desk.old question result desk.new }
 {

@@ -5,7 +5,7 @@ use Rattle.std.proofs.{lemmas.List.Elements.recursion_from_All, lemmas.List.From
 use Rattle.std.proofs.lemmas.Option.{none-some, same_Some, MatchOption-at_some}
 use Rattle.std.specs.List.{slice_get, range_with_len, AllByRecursion}
 use Rattle.er_event.specs.{declared.events.Phase.TheVariants.Finished, declared.matches.Match.Match, declared.scores.Games.Games}
-use Rattle.er_event.specs.{declared.players.TheConstants.MAX_PLAYERS, Event.EventValue, Round.{is_counted, seats}, Bracket.winner}
+use Rattle.er_event.specs.{declared.players.TheConstants.MAX_PLAYERS, Event.EventValue, Round.{is_complete, seats}, Bracket.winner}
 use Rattle.er_event.specs.{Bracket.{winner_with, next_stage, SameSlots, FollowOn, last_match}, Sound.{numbers, IsSoundButForSeeds}}
 use Rattle.er_bracket.proofs.LastLemmas.{last-after}
 
@@ -40,7 +40,7 @@ module _ (P : ℕ → Type 0) where
   won m played h = won-with m m.score played h
 
   -- those who go on from a complete stage
-  next-each : (ms : List Match) → is_counted ms ≡ true → Each ms → Each (next_stage ms)
+  next-each : (ms : List Match) → is_complete ms ≡ true → Each ms → Each (next_stage ms)
   next-each [] done h = tt
   next-each (m ∷ []) done h = tt
   next-each (m ∷ n ∷ more) done h =

@@ -12,9 +12,10 @@ seeds_by_slot cut =
     else []
 
 -- the player with seed n stands at place n
-abbrev pub seeded : List ℕ → ℕ → ℕ
-seeded players seed = slice_index_or (0 ∷ players) seed 0
+abbrev pub player_of_seed : List ℕ → ℕ → ℕ
+player_of_seed players seed = slice_index_or (0 ∷ players) seed 0
 
 -- one open match for each slot
 abbrev pub first_stage : List ℕ → List Match
-first_stage players = map (λ (s : ℕ × ℕ). open_match (seeded players s.0) (seeded players s.1)) (seeds_by_slot (length players))
+first_stage players =
+    map (λ (s : ℕ × ℕ). open_match (player_of_seed players s.0) (player_of_seed players s.1)) (seeds_by_slot (length players))

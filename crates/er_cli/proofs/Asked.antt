@@ -4,9 +4,10 @@ use Rattle.std.proofs.Common.{Option, refl, sym, ap, subst, ◌∙◌, arith, ap
 use Rattle.sqlite_trees.specs.declared.store.Store.{Ghosts}
 use Rattle.sqlite.specs.{State.HasCleanDisk}
 use Rattle.er_event.specs.declared.{commands.Command.Command, refusals.Refusal.Refusal}
-use Rattle.er_store.specs.{Representing.Leaves}
-use Rattle.er_desk.specs.{declared.desk.Desk.Desk, Desk.{DeskState, ShowsOwn, Point, placed_at, point_of, desk_state, state, version_in}}
-use Rattle.er_desk.specs.{Asking.{Asks, SessionsJoin, joined, later_doubt}, History.LeadsTo, Migrating.{MayMigrate, Migrates}}
+use Rattle.er_store.specs.{Representing.AfterCrash}
+use Rattle.er_desk.specs.declared.desk.Desk.{Desk}
+use Rattle.er_desk.specs.Desk.{DeskState, HoldsOwnEvent, Point, placed_at, point_of, desk_state, state, version_in}
+use Rattle.er_desk.specs.{Asking.{Asks, SessionsJoin, join_sessions, later_in_doubt}, History.LeadsTo, Migrating.{MayMigrate, Migrates}}
 use Rattle.er_desk.specs.{Run.{Session, IsStoredEnd, no_session}}
 use Rattle.er_answers.specs.{Answers.{AnswersDesk, AsksFor, MovesFile, session_at}, Question.moved_told}
 use Rattle.er_answers.specs.declared.question.{Question.Question, Told.Told}
@@ -17,11 +18,11 @@ use Rattle.er_cli.proofs.GoingOn.{Stays, goes_asking, goes_moving}
 -- one thing more
 pub asks_push : {S : Type 0} (g : Ghosts S) (first old new : Desk S g) (questions : List Question) (answers : List Told)
     (question : Question) (told : Told) → AsksAll g first questions answers old → AsksFor g old question told new
-    → AnswersDesk (HasCleanDisk (state g new) × ShowsOwn g old) (desk_state old) question told (desk_state new)
+    → AnswersDesk (HasCleanDisk (state g new) × HoldsOwnEvent g old) (desk_state old) question told (desk_state new)
     → AsksAll g first (questions ++ question ∷ []) (answers ++ told ∷ []) new
 asks_push {S} g first old new [] [] question told is asked answered =
     subst (λ (d : Desk S g). (mid : Desk S g) × AsksFor g d question told mid
-    × AnswersDesk (HasCleanDisk (state g mid) × ShowsOwn g d) (desk_state d) question told (desk_state mid) × (new ≡ mid)) is
+    × AnswersDesk (HasCleanDisk (state g mid) × HoldsOwnEvent g d) (desk_state d) question told (desk_state mid) × (new ≡ mid)) is
     (new, asked, answered, refl)
 asks_push g first old new [] (a ∷ answers) question told is asked answered = absurd is
 asks_push g first old new (q ∷ questions) [] question told is asked answered = absurd is
@@ -37,12 +38,14 @@ pub record Went {S : Type 0} (g : Ghosts S) (Asked : Type 0) (old : Desk S g) (s
     (new : Desk S g) : Type 0 where
   pub clean : HasCleanDisk (state g new) → HasCleanDisk (state g old)
   pub waits : IsTrue (desk_state old).needs_reopen → (new ≡ old) × (session ≡ no_session) × ((v : ℕ) → In v v)
-  pub leads : LeadsTo (point_of (desk_state old)) session.kept (point_of (desk_state new))
-  pub sure : IsFalse (desk_state new).needs_reopen → session.doubt ≡ None
+  pub leads : LeadsTo (point_of (desk_state old)) session.acknowledged (point_of (desk_state new))
+  pub sure : IsFalse (desk_state new).needs_reopen → session.in_doubt ≡ None
   pub within : IsFalse (desk_state new).needs_reopen → In (version_in old) (version_in new)
-  pub represents : MayIf g Asked old → HasCleanDisk (state g new) → ShowsOwn g old → IsFalse (desk_state new).needs_reopen → ShowsOwn g new
-  pub migrates : HasCleanDisk (state g new) → ShowsOwn g old → MayMigrate g old → IsFalse (desk_state new).needs_reopen → MayMigrate g new
-  pub crash : MayIf g Asked old → ShowsOwn g old → Leaves (state g new)
+  pub represents : MayIf g Asked old → HasCleanDisk (state g new) → HoldsOwnEvent g old → IsFalse (desk_state new).needs_reopen
+      → HoldsOwnEvent g new
+  pub migrates : HasCleanDisk (state g new) → HoldsOwnEvent g old → MayMigrate g old → IsFalse (desk_state new).needs_reopen
+      → MayMigrate g new
+  pub crash : MayIf g Asked old → HoldsOwnEvent g old → AfterCrash (state g new)
       (λ trees. (v : ℕ) × In (version_in old) v × IsStoredEnd (placed_at (point_of (desk_state old)) v) session trees)
 
 -- ---- one request
@@ -119,8 +122,9 @@ module _ {S : Type 0} (g : Ghosts S) (old new : Desk S g) where
 
 -- ---- one behind the other
 
-nothing_more : (s : Session) → joined s no_session ≡ s
-nothing_more s = ap (λ (kept : List Command). let it : Session = record { kept = kept; doubt = s.doubt } in it) (append-nil s.kept)
+nothing_more : (s : Session) → join_sessions s no_session ≡ s
+nothing_more s =
+    ap (λ (kept : List Command). let it : Session = record { acknowledged = kept; in_doubt = s.in_doubt } in it) (append-nil s.acknowledged)
 
 module _ (join : SessionsJoin) {S : Type 0} (g : Ghosts S) (A B : Type 0) (old mid new : Desk S g) (s t : Session)
     (In On : (was now : ℕ) → Type 0) (one : Went g A old s In mid) (two : Went g B mid t On new) where
@@ -135,25 +139,25 @@ module _ (join : SessionsJoin) {S : Type 0} (g : Ghosts S) (A B : Type 0) (old m
       by true is = absurd (true≢false (sym (ap (λ (d : Desk S g). (desk_state d).needs_reopen) (two.waits is).0 ∙ is) ∙ runs))
       by false is = is
 
-  both_wait : IsTrue (desk_state old).needs_reopen → (new ≡ old) × (joined s t ≡ no_session) × ((v : ℕ) → Both v v)
+  both_wait : IsTrue (desk_state old).needs_reopen → (new ≡ old) × (join_sessions s t ≡ no_session) × ((v : ℕ) → Both v v)
   both_wait stopped =
       let before = one.waits stopped in
       let after = two.waits (ap (λ (d : Desk S g). (desk_state d).needs_reopen) before.0 ∙ stopped) in (
         after.0 ∙ before.0,
-        subst (λ (a : Session). joined a t ≡ no_session) (sym before.1)
-            (subst (λ (b : Session). joined no_session b ≡ no_session) (sym after.1) refl),
+        subst (λ (a : Session). join_sessions a t ≡ no_session) (sym before.1)
+            (subst (λ (b : Session). join_sessions no_session b ≡ no_session) (sym after.1) refl),
         λ v. (v, before.2 v, after.2 v),
       )
 
-  may_later : MayIf g (A ⊎ B) old → ShowsOwn g old → IsFalse (desk_state mid).needs_reopen → MayIf g B mid
+  may_later : MayIf g (A ⊎ B) old → HoldsOwnEvent g old → IsFalse (desk_state mid).needs_reopen → MayIf g B mid
   may_later may shows runs = λ asked clean. one.migrates clean shows (may (inr asked) (one.clean clean)) runs
 
-  both_crash : MayIf g (A ⊎ B) old → ShowsOwn g old → Leaves (state g new)
-      (λ trees. (v : ℕ) × Both (version_in old) v × IsStoredEnd (placed_at (point_of (desk_state old)) v) (joined s t) trees)
+  both_crash : MayIf g (A ⊎ B) old → HoldsOwnEvent g old → AfterCrash (state g new)
+      (λ trees. (v : ℕ) × Both (version_in old) v × IsStoredEnd (placed_at (point_of (desk_state old)) v) (join_sessions s t) trees)
   both_crash may shows clean trees left = by (desk_state mid).needs_reopen refl
     where
       Left : Type 0
-      Left = (v : ℕ) × Both (version_in old) v × IsStoredEnd (placed_at (point_of (desk_state old)) v) (joined s t) trees
+      Left = (v : ℕ) × Both (version_in old) v × IsStoredEnd (placed_at (point_of (desk_state old)) v) (join_sessions s t) trees
 
       by : (b : Bool) → (desk_state mid).needs_reopen ≡ b → Left
       by true is =
@@ -163,7 +167,7 @@ module _ (join : SessionsJoin) {S : Type 0} (g : Ghosts S) (A B : Type 0) (old m
             it.0,
             (it.0, it.1, after.2 it.0),
             subst (λ (x : Session). IsStoredEnd (placed_at (point_of (desk_state old)) it.0) x trees)
-                (sym (subst (λ (b : Session). joined s b ≡ s) (sym after.1) (nothing_more s))) it.2,
+                (sym (subst (λ (b : Session). join_sessions s b ≡ s) (sym after.1) (nothing_more s))) it.2,
           )
       by false is =
           let here = one.represents (λ asked. may (inl asked)) (two.clean clean) shows is in
@@ -173,12 +177,12 @@ module _ (join : SessionsJoin) {S : Type 0} (g : Ghosts S) (A B : Type 0) (old m
             (join (point_of (desk_state old)) (point_of (desk_state mid)) s t one.leads).ends (one.sure is) it.0 trees it.2,
           )
 
-  pub went_then : Went g (A ⊎ B) old (joined s t) Both new
+  pub went_then : Went g (A ⊎ B) old (join_sessions s t) Both new
   went_then = record {
     clean = λ clean. one.clean (two.clean clean);
     waits = both_wait;
     leads = (join (point_of (desk_state old)) (point_of (desk_state mid)) s t one.leads).leads (point_of (desk_state new)) two.leads;
-    sure = λ runs. alone s.doubt t.doubt (one.sure (ran runs)) (two.sure runs);
+    sure = λ runs. alone s.in_doubt t.in_doubt (one.sure (ran runs)) (two.sure runs);
     within = λ runs. (version_in mid, one.within (ran runs), two.within runs);
     represents = λ may clean shows runs. two.represents (may_later may shows (ran runs)) clean
         (one.represents (λ asked. may (inl asked)) (two.clean clean) shows (ran runs)) runs;
@@ -187,8 +191,8 @@ module _ (join : SessionsJoin) {S : Type 0} (g : Ghosts S) (A B : Type 0) (old m
     crash = both_crash;
   }
     where
-      alone : (one two : Option Command) → one ≡ None → two ≡ None → later_doubt one two ≡ None
-      alone one two first then = subst (λ (o : Option Command). later_doubt one o ≡ None) (sym then) first
+      alone : (one two : Option Command) → one ≡ None → two ≡ None → later_in_doubt one two ≡ None
+      alone one two first then = subst (λ (o : Option Command). later_in_doubt one o ≡ None) (sym then) first
 
 -- ---- all of it
 
@@ -200,7 +204,7 @@ fully R old new question told given it = record { does = it.does; due = λ _ run
 pub record Over {S : Type 0} (g : Ghosts S) (old : Desk S g) (questions : List Question) (answers : List Told) (session : Session)
     (new : Desk S g) : Type 0 where
   pub went : Went g (AsksMigration questions) old session (LeadToVersion questions answers) new
-  pub answered : HasCleanDisk (state g new) → (IsFalse (desk_state old).needs_reopen → ShowsOwn g old)
+  pub answered : HasCleanDisk (state g new) → (IsFalse (desk_state old).needs_reopen → HoldsOwnEvent g old)
       → (IsFalse (desk_state old).needs_reopen → MayIf g (AsksMigration questions) old)
       → AnswersAll (desk_state old) questions answers session (desk_state new)
 
@@ -222,7 +226,7 @@ module _ (join : SessionsJoin) {S : Type 0} (g : Ghosts S) (new : Desk S g) (res
       let s = session_at question told (desk_state mid).needs_reopen in
       let was : IsFalse (desk_state mid).needs_reopen → IsFalse (desk_state old).needs_reopen = λ runs.
       by one (desk_state old).needs_reopen refl runs in (
-        joined s later.0,
+        join_sessions s later.0,
         record {
           went = went_then join g (question ≡ Migrate) (AsksMigration questions) old mid new s later.0 (LeadsToVersion question told)
               (LeadToVersion questions answers) one later.1.went;

@@ -7,14 +7,15 @@ use Rattle.std.specs.List.{filter, list_any, take-map}
 use Rattle.er_event.specs.{declared.commands.Command.Command, declared.commands.Command.TheVariants.Enrol}
 use Rattle.er_event.specs.{declared.commands.Receipt.Receipt, declared.refusals.Refusal.Refusal}
 use Rattle.er_store.specs.Fault.{IsFault}
-use Rattle.er_desk.specs.{Asking.{ListsGrow, joined}, Desk.{DeskState, Turn}, Reply.Reply, Run.{Runs, Session, session_of}}
+use Rattle.er_desk.specs.{Asking.{ListsGrow, join_sessions}, Desk.{DeskState, Outcome}, Reply.Reply, Run.{Runs, Session, session_of}}
 use Rattle.er_paper.specs.declared.imports.PlayerLine.{PlayerLine}
-use Rattle.er_cli.specs.{declared.importing.Additions.Additions, Importing.{Enrols, is_already, is_stop, is_taken, names_of, additions_of}}
+use Rattle.er_cli.specs.{declared.importing.Additions.Additions, Importing.{Enrols, is_already, is_stop, is_taken}}
+use Rattle.er_cli.specs.inside.Importing.{names_of}
 
 -- one command more of a run
 pub runs_more : (commands : List Command) (replies : List Reply) (old mid new : DeskState) (command : Command) (reply : Reply)
-    → Runs old commands replies mid → Turn mid command reply new → Runs old (commands ++ command ∷ []) (replies ++ reply ∷ []) new
-runs_more [] [] old mid new command reply runs last = (new, subst (λ k. Turn k command reply new) runs last, refl)
+    → Runs old commands replies mid → Outcome mid command reply new → Runs old (commands ++ command ∷ []) (replies ++ reply ∷ []) new
+runs_more [] [] old mid new command reply runs last = (new, subst (λ k. Outcome k command reply new) runs last, refl)
 runs_more (c ∷ commands) (r ∷ replies) old mid new command reply runs last =
     (runs.0, runs.1, runs_more commands replies runs.0 mid new command reply runs.2 last)
 runs_more [] (r ∷ replies) old mid new command reply runs last = absurd runs
@@ -26,7 +27,7 @@ fault_stops why (inl is) = ap (λ (w : Refusal). is_stop (Err w)) is
 fault_stops why (inr is) = ap (λ (w : Refusal). is_stop (Err w)) is
 
 -- a desk that goes on with an import runs
-pub runs_on : (old new : DeskState) (command : Command) (reply : Reply) → Turn old command reply new → is_stop reply ≡ false
+pub runs_on : (old new : DeskState) (command : Command) (reply : Reply) → Outcome old command reply new → is_stop reply ≡ false
     → IsFalse new.needs_reopen
 runs_on old new command reply (inl it) on = it.runs
 runs_on old new command reply (inr (inl it)) on = subst (λ (s : DeskState). IsFalse s.needs_reopen) (sym it.same) it.was_running
@@ -35,6 +36,9 @@ runs_on old new command reply (inr (inr (inl it))) on =
 runs_on old new command reply (inr (inr (inr it))) on = absurd (true≢false (sym (ap is_stop it.answered) ∙ on))
 
 -- ---- one name more was handed in
+
+abbrev pub additions_of : List Reply → Additions
+additions_of replies = record { added = length (filter is_ok replies); already = length (filter is_already replies) }
 
 counts : (p : Reply → Bool) (replies : List Reply) (reply : Reply)
     → length (filter p (replies ++ reply ∷ [])) ≡ length (filter p replies) + length (filter p (reply ∷ []))
@@ -53,11 +57,11 @@ one_longer replies reply = length-append replies (reply ∷ [])
 
 -- the session with this command behind it
 abbrev pub with_name : Session → List ℕ → Reply → DeskState → Session
-with_name session name reply new = joined session (session_of (Enrol name ∷ []) (reply ∷ []) new.needs_reopen)
+with_name session name reply new = join_sessions session (session_of (Enrol name ∷ []) (reply ∷ []) new.needs_reopen)
 
 module _ (grow : ListsGrow) (names : List (List ℕ)) (old mid new : DeskState) (additions : Additions) (session : Session)
     (so_far : Enrols names old additions None session mid) (name : List ℕ)
-    (reply : Reply) (turn : Turn mid (Enrol name) reply new) where
+    (reply : Reply) (turn : Outcome mid (Enrol name) reply new) where
   as_many : length so_far.replies ≡ length names
   as_many = so_far.all refl
 
@@ -153,7 +157,7 @@ module _ (grow : ListsGrow) (lines : List PlayerLine) (i : ℕ) (line : PlayerLi
     (is : line ≡ get_or lines i line)
     (old mid new : DeskState) (additions : Additions) (session : Session)
     (so_far : Enrols (names_of (take i lines)) old additions None session mid) (reply : Reply)
-    (turn : Turn mid (Enrol line.name) reply new) where
+    (turn : Outcome mid (Enrol line.name) reply new) where
   abbrev then : Session
   then = with_name session line.name reply new
 

@@ -10,19 +10,19 @@ use Rattle.sqlite.specs.declared.error.Error.{Error}
 use Rattle.er_event.specs.{declared.commands.Command.Command, declared.commands.Receipt.Receipt, declared.refusals.Refusal.Refusal}
 use Rattle.er_event.specs.{declared.refusals.Refusal.TheVariants.{Memory, NoEvent}, Event.EventValue}
 use Rattle.er_rank.specs.declared.rows.Row.{Row}
-use Rattle.er_store.specs.{Fault.{IsFault}, Representing.{Leaves, RepresentsAt}, Layout.{Layout, version_of}}
-use Rattle.er_desk.specs.{declared.desk.Desk.Desk, Desk.{Point, Placed, DeskState, Turn, Reads, ShowsOwn, point_of}}
+use Rattle.er_store.specs.{Fault.{IsFault}, Representing.{AfterCrash, RepresentsAt}, Layout.{Layout, version_of}}
+use Rattle.er_desk.specs.{declared.desk.Desk.Desk, Desk.{Point, Placed, DeskState, Outcome, Reads, HoldsOwnEvent, point_of}}
 use Rattle.er_desk.specs.Desk.{IsStoredAt, placed_at, placed_of, running_at, desk_state, state, version_in}
 use Rattle.er_desk.specs.{Reply.{Reply, receipt}, Run.{Session, IsStoredEnd, no_session}, History.{Ended}}
-use Rattle.er_desk.specs.{Headline.{FindsAgain, IsBeginning, WasLeftBy}, Migrating.{MayMigrate, Migrates, MovesDesk}}
+use Rattle.er_desk.specs.{Files.HasMade, Headline.{FindsAgain, IsBeginning, RecoversHistory}, Migrating.{MayMigrate, Migrates, MovesDesk}}
 use Rattle.sqlite_trees.specs.declared.store.Store.{Ghosts}
 use Rattle.er_desk.specs.{Asking.{Asks, GoesOnFrom, NextSessions}}
 use Rattle.er_desk.specs.{History.new_point, Opening.HoldsNothing}
 use Rattle.er_event.specs.Sound.{IsSetUp}
-use Rattle.er_cli.specs.{Files.HasMadeEvent, Left.{IsClearedOf, IsPutAway}, Next.{BeginsIn, GoesTo}}
+use Rattle.er_cli.specs.{Files.WorksOn, Left.{IsClearedOf, ClosesFile, WasOpenedClean}, Next.GoesTo}
 use Rattle.er_cli.specs.declared.left.{Left.Left, Left.TheVariants.Nothing}
 use Rattle.er_cli.proofs.Leaving.{put_such, put_clean, was_put, cleared_such, cleared_clean, cleared_unopened, cleared_sound, put_sound}
-use Rattle.er_cli.proofs.Leaving.{left_by}
+use Rattle.er_cli.proofs.Leaving.{BeginsIn, left_by}
 use Rattle.std.proofs.Math.Logic.{∥∥₁_elim}
 use Rattle.sqlite_trees.specs.Props.{Trees-set}
 use Rattle.sqlite.specs.Effect.{Database}
@@ -30,7 +30,7 @@ use Rattle.sqlite_catalog.specs.Listing.{IsSound}
 use Rattle.er_store.specs.Layout.Layout.{Old, New, Moved}
 use Rattle.er_desk.specs.{declared.opening.OpenFault.OpenFault, declared.opening.OpenFault.TheVariants.Unopened as NotOpened}
 use Rattle.er_desk.specs.{declared.opening.OpenFault.TheVariants.Refused as OpenedInVain}
-use Rattle.er_desk.specs.{Opening.{OnRefused, OnUnopened, WhereUnopened, IsCleanFault, SeesStill, why_of}}
+use Rattle.er_desk.specs.{Opening.{OnRefused, OnUnopened, WhereUnopened, IsCleanFault, HoldsStill, why_of}}
 use Rattle.er_event.specs.{declared.slips.SlipRow.SlipRow, Slip.slip_of, declared.refusals.Refusal.TheVariants.NoSuchMatch}
 use Rattle.er_store.specs.Fault.{IsReadFault}
 use Rattle.er_answers.specs.Answers.{AnswersDesk, AsksFor, DoesAsked, MovesFile, session_at}
@@ -38,8 +38,11 @@ use Rattle.er_answers.specs.{Due.{IsAnswerAt, IsDueAt, OrFault}, Question.{IsRow
 use Rattle.er_answers.specs.declared.question.{Question.Question, Told.Told, Told.TheVariants.{Accepted, Refused}}
 use Rattle.er_answers.specs.declared.question.Question.TheVariants.{Submit, Standings, Show, Slip as SlipOf, Migrate}
 use Rattle.er_cli.specs.declared.action.{Task.Task, Task.TheVariants.{Ask, Import, Serve}}
-use Rattle.er_cli.specs.GoingOn.{AnswersQuestion, DoesNext, TakesCommands, AnswersOnce, LeadsToVersion, MayMoveTables}
-use Rattle.er_cli.specs.{GoingOn.{GoesOn, GoesOnAction}, Files.{OpensFor}, Help.{Printed, Tells}}
+use Rattle.er_cli.specs.GoingOn.{GoesOnBy, LeadsToVersion, MayMoveTables, StaysUnopened}
+use Rattle.er_cli.specs.Tasks.{AnswersQuestion, AnswersTask, DoesTask, Work, work_of}
+use Rattle.er_cli.specs.Tasks.Work.{Commands, Migration}
+use Rattle.er_cli.specs.{Importing.Imports, Serving.ServesClients}
+use Rattle.er_cli.specs.{Words.{Does, GoesOnAction, TellsAndLeaves}, Help.{Printed, Tells}}
 use Rattle.er_cli.specs.declared.action.{Action.Action, Action.TheVariants.{Init, Open}}
 
 -- ---- a receipt
@@ -56,14 +59,14 @@ abbrev is_accepted : Told → Bool
 is_accepted (Accepted receipt) = true
 is_accepted told = false
 
-turn_runs : (old new : DeskState) (c : Command) (receipt : Receipt) → Turn old c (Ok receipt) new → IsFalse new.needs_reopen
+turn_runs : (old new : DeskState) (c : Command) (receipt : Receipt) → Outcome old c (Ok receipt) new → IsFalse new.needs_reopen
 turn_runs old new c receipt (inl it) = it.runs
 turn_runs old new c receipt (inr (inl it)) = absurd (true≢false (ap is_ok it.answered))
 turn_runs old new c receipt (inr (inr (inl it))) = absurd (true≢false (ap is_ok it.answered))
 turn_runs old new c receipt (inr (inr (inr it))) = absurd (true≢false (ap is_ok it.answered))
 
 abbrev pub one_kept : Command → Session
-one_kept command = record { kept = command ∷ []; doubt = None }
+one_kept command = record { acknowledged = command ∷ []; in_doubt = None }
 
 other_kept : {P : Type 0} (question : Question) (command : Command) → question ≡ Submit command → is_submitted question ≡ false → P
 other_kept question command asked other = absurd (true≢false (sym (ap is_submitted asked) ∙ other))
@@ -84,7 +87,7 @@ kept_alone old new Migrate told it command receipt asked tells = other_kept Migr
 
 -- ---- a fault of the store
 
-turn_fault : (old new : DeskState) (c : Command) (r : Reply) → Turn old c r new → IsFalse old.needs_reopen → IsTrue new.needs_reopen
+turn_fault : (old new : DeskState) (c : Command) (r : Reply) → Outcome old c r new → IsFalse old.needs_reopen → IsTrue new.needs_reopen
     → (why : Refusal) × IsFault why × (r ≡ Err why)
 turn_fault old new c r (inl it) runs stopped = absurd (true≢false (sym stopped ∙ it.runs))
 turn_fault old new c r (inr (inl it)) runs stopped =
@@ -161,7 +164,7 @@ doubt_fault Represented old new question told represented runs answers stopped =
 pub record Goes {S : Type 0} (g : Ghosts S) (In : (was now : ℕ) → Type 0) (old : Desk S g) (session : Session) (new : Desk S g) : Type
     0 where
   pub clean : HasCleanDisk (state g new) → HasCleanDisk (state g old)
-  pub crash : ShowsOwn g old → Leaves (state g new)
+  pub crash : HoldsOwnEvent g old → AfterCrash (state g new)
       (λ trees. (v : ℕ) × In (version_in old) v × IsStoredEnd (placed_at (point_of (desk_state old)) v) session trees)
 
 abbrev pub Stays : (was now : ℕ) → Type 0
@@ -194,7 +197,7 @@ goes_moving g old told new it may = record {
       (by it.moved it.does shows clean trees left);
 }
   where
-    by : (moved : Result ℕ Refusal) → MovesDesk g old moved new → ShowsOwn g old → HasCleanDisk (state g new) → (trees : Trees)
+    by : (moved : Result ℕ Refusal) → MovesDesk g old moved new → HoldsOwnEvent g old → HasCleanDisk (state g new) → (trees : Trees)
         → (state g new).may_leave trees
         → (v : ℕ) × LeadsToVersion Migrate (moved_told moved) (version_in old) v
         × IsStoredEnd (placed_at (point_of (desk_state old)) v) no_session trees
@@ -211,9 +214,9 @@ goes_moving g old told new it may = record {
 
 -- over tables of version 2 they represent the event while the desk runs
 pub represents_second : {S : Type 0} (g : Ghosts S) (old new : Desk S g) (question : Question) (told : Told)
-    → AsksFor g old question told new → version_in old ≡ 2 → HasCleanDisk (state g new) → ShowsOwn g old
+    → AsksFor g old question told new → version_in old ≡ 2 → HasCleanDisk (state g new) → HoldsOwnEvent g old
     → IsFalse (desk_state new).needs_reopen
-    → ShowsOwn g new
+    → HoldsOwnEvent g new
 represents_second g old new (Submit command) told it second = it.represents
 represents_second g old new Standings told it second = it.represents
 represents_second g old new (Show view) told it second = it.represents
@@ -239,7 +242,7 @@ runs_at old first runs is =
 -- This desk opened the file: it found the point at which the history ends, and sees what the file holds.
 pub record IsFound {D : Type 0} (d : disk.Ghosts D) (image : Image) (first : Placed) (desk : Desk (FileStore D d) over_files) : Type 0 where
   pub finds : HasCleanDisk (state over_files desk) → FindsAgain over_files desk first
-  pub sees : (db : Trees) → HoldsDatabase image db → SeesStill (state over_files desk) db
+  pub sees : (db : Trees) → HoldsDatabase image db → HoldsStill (state over_files desk) db
 
 module _ {D : Type 0} (d : disk.Ghosts D) (image : Image) (first : Placed) (desk : Desk (FileStore D d) over_files)
     (found : IsFound d image first desk) (clean : HasCleanDisk (state over_files desk)) where
@@ -250,7 +253,7 @@ module _ {D : Type 0} (d : disk.Ghosts D) (image : Image) (first : Placed) (desk
       again : FindsAgain over_files desk first
       again = found.finds clean
 
-      shows : ShowsOwn over_files desk
+      shows : HoldsOwnEvent over_files desk
       shows = again.shows
 
       now : Database
@@ -272,7 +275,7 @@ module _ (new : Point) (first : Placed) (ends : List Ended) (begins : IsBeginnin
   module _ {D : Type 0} (d : disk.Ghosts D) (In : (was now : ℕ) → Type 0) (desk last : Desk (FileStore D d) over_files) (session : Session)
       (found : HasCleanDisk (state over_files desk) → FindsAgain over_files desk first)
       (asked : Goes over_files In desk session last) where
-    pub leaves_next : Leaves (state over_files last) (BeginsIn (In first.version) new ends session)
+    pub leaves_next : AfterCrash (state over_files last) (BeginsIn (In first.version) new ends session)
     leaves_next clean trees may =
         let again = found (asked.clean clean) in
         let (version, within, ended) = asked.crash again.shows clean trees may in (
@@ -282,27 +285,11 @@ module _ (new : Point) (first : Placed) (ends : List Ended) (begins : IsBeginnin
               (subst (λ (p : Placed). IsStoredEnd (placed_at p.point version) session trees) again.found ended),
         )
 
-    pub goes_to : (what : Left D d) → IsPutAway (state over_files last) what → GoesTo d (In first.version) new ends session what
+    pub goes_to : (what : Left D d) → ClosesFile (state over_files last) what → GoesTo d (In first.version) new ends session what
     goes_to what put = record {
       put_away = was_put (state over_files last) what put;
       leaves = left_by (In first.version) new ends session begins what (put_sound (state over_files last) what put)
           (put_such (BeginsIn (In first.version) new ends session) (state over_files last) what put leaves_next);
-    }
-
-  module _ {D : Type 0} (d : disk.Ghosts D) (desk last : Desk (FileStore D d) over_files) (session : Session)
-      (found : HasCleanDisk (state over_files desk) → FindsAgain over_files desk first)
-      (asked : Goes over_files Stays desk session last) where
-    handed : (Did : DeskState → Session → DeskState → Type 0)
-        → IsFalse (desk_state desk).needs_reopen → Did (desk_state desk) session (desk_state last)
-        → (what : Left D d) → IsPutAway (state over_files last) what → TakesCommands d new ends first Did what
-    handed Did runs did what put = record {
-      session = session;
-      goes = goes_to d Stays desk last session found asked what put;
-      did = put_clean _ (state over_files last) what put (λ clean. (
-        desk_state last,
-        subst (λ (s : DeskState). Did s session (desk_state last))
-            (runs_at (desk_state desk) first runs (found (asked.clean clean)).found) did,
-      ));
     }
 
 -- ---- a new event
@@ -313,67 +300,104 @@ first_placed new old is = ap placed_of is
 -- where an event was made in a file that held nothing, its empty history begins
 pub made_begins : NextSessions → {D : Type 0} (d : disk.Ghosts D) (image : Image) (name : List ℕ) (rounds cut : ℕ)
     (desk : Desk (FileStore D d) over_files)
-    → IsSetUp name rounds cut → HasMadeEvent image (new_point name rounds cut) desk → Asks over_files desk no_session desk
-    → (what : Left D d) → IsPutAway (state over_files desk) what → HoldsNothing image
+    → IsSetUp name rounds cut → HasMade image name rounds cut desk → Asks over_files desk no_session desk
+    → (what : Left D d) → ClosesFile (state over_files desk) what → HoldsNothing image
     → GoesTo d (λ version. version ≡ 2) (new_point name rounds cut) [] no_session what
 made_begins law d image name rounds cut desk set_up made asks what put nothing =
     let new = new_point name rounds cut in
     let begins : IsBeginning new = record { name = name; limits = (rounds, cut); is_new = refl; set_up = set_up } in
     goes_to new (placed_at new 2) [] begins (law new new [] begins refl) d Stays desk desk no_session
     (λ clean. record {
-      found = first_placed new (desk_state desk) made.is_new;
-      shows = made.represents nothing clean;
-      leaves = made.leaves nothing;
+      found = first_placed new (desk_state desk) made.made;
+      shows = made.created nothing clean;
+      leaves = made.acknowledged nothing;
     })
     (goes_asking _ _ _ _ asks) what put
 
+-- ---- what was done
+
+one_work : (question : Question) (command : Command) (told : Told) (needs_reopen : Bool) → question ≡ Submit command
+    → work_of question told needs_reopen ≡ Commands (session_at question told needs_reopen)
+one_work question command told needs_reopen is =
+    subst (λ (q : Question). work_of q told needs_reopen ≡ Commands (session_at q told needs_reopen)) (sym is) refl
+
+-- a question does this to the file of a desk
+pub works_for : {S : Type 0} (g : Ghosts S) (old new : Desk S g) (question : Question) (told : Told) → AsksFor g old question told new
+    → WorksOn g old (work_of question told (desk_state new).needs_reopen) new
+works_for g old new (Submit command) told it = it
+works_for g old new Standings told it = it
+works_for g old new (Show view) told it = it
+works_for g old new (SlipOf round table) told it = it
+works_for g old new Migrate told it = it
+
+work_clean : {S : Type 0} (g : Ghosts S) (old : Desk S g) (work : Work) (new : Desk S g) → WorksOn g old work new
+    → HasCleanDisk (state g new) → HasCleanDisk (state g old)
+work_clean g old (Commands session) new it = it.clean
+work_clean g old (Migration told) new it = it.does.clean
+
 -- ---- a history that left the file
 
+-- what a line that opens an event goes on with
+abbrev pub GoesOn : {D : Type 0} (d : disk.Ghosts D) → (Error → Option (Leftover D d) → Type 0) → Image → Point → List Ended → Placed
+    → Left D d → Printed → Task → Type 0
+GoesOn d Spares image new ends first what p task =
+    TellsAndLeaves (λ (work : Work). AnswersTask (WasOpenedClean what) first task work p)
+    (λ (work : Work). GoesOnBy d image new ends first work what)
+    ⊎ TellsAndLeaves (λ (why : Refusal). Tells (Refused why) p)
+    (λ (why : Refusal). StaysUnopened d Spares new ends first why what)
+
 module _ (law : NextSessions) (image : Image) (new : Point) (first : Placed) (ends : List Ended)
-    (was : WasLeftBy image new ends first) where
+    (was : RecoversHistory image new ends first) where
   from : GoesOnFrom new first.point ends
   from = law new first.point ends was.begins was.history
 
   module _ {D : Type 0} (d : disk.Ghosts D) (what : Left D d) where
-    asked_goes_on : (desk last : Desk (FileStore D d) over_files) (question : Question) (told : Told)
-        → IsFound d image first desk
-        → Goes over_files (LeadsToVersion question told) desk (session_at question told (desk_state last).needs_reopen) last
+    answers_question : (desk last : Desk (FileStore D d) over_files) (question : Question) (told : Told)
+        → IsFound d image first desk → (HasCleanDisk (state over_files last) → HasCleanDisk (state over_files desk))
         → IsFalse (desk_state desk).needs_reopen
-        → AnswersDesk (HasCleanDisk (state over_files last) × ShowsOwn over_files desk) (desk_state desk) question told (desk_state last)
-        → IsPutAway (state over_files last) what → AnswersQuestion d new ends first question told what
-    asked_goes_on desk last question told found asked runs answers put = record {
+        → AnswersDesk (HasCleanDisk (state over_files last) × HoldsOwnEvent over_files desk) (desk_state desk) question told
+        (desk_state last)
+        → ClosesFile (state over_files last) what
+        → AnswersQuestion (WasOpenedClean what) first question told (work_of question told (desk_state last).needs_reopen)
+    answers_question desk last question told found cleans runs answers put = record {
       needs_reopen = (desk_state last).needs_reopen;
-      goes = goes_to new first ends was.begins from d (LeadsToVersion question told) desk last
-          (session_at question told (desk_state last).needs_reopen) found.finds asked what put;
+      asked = refl;
       lawful = put_clean _ (state over_files last) what put (λ clean.
-          let again = found.finds (asked.clean clean) in
+          let again = found.finds (cleans clean) in
           subst (λ (p : Placed). IsAnswerAt p.version p.point question told) again.found
           (answers.due (clean, again.shows) runs));
-      acknowledged = kept_alone (desk_state desk) (desk_state last) question told answers.does;
+      acknowledged = λ command receipt is tells.
+          one_work question command told (desk_state last).needs_reopen is
+          ∙ ap Commands (kept_alone (desk_state desk) (desk_state last) question told answers.does command receipt is tells);
       doubt = put_clean _ (state over_files last) what put (λ clean stopped.
-          doubt_fault _ (desk_state desk) (desk_state last) question told (clean, (found.finds (asked.clean clean)).shows) runs answers
+          doubt_fault _ (desk_state desk) (desk_state last) question told (clean, (found.finds (cleans clean)).shows) runs answers
           stopped);
     }
 
-    is_answered : (desk last : Desk (FileStore D d) over_files) (question : Question) (told : Told) → IsFound d image first desk
-        → IsFalse (desk_state desk).needs_reopen → AsksFor over_files desk question told last
-        → AnswersDesk (HasCleanDisk (state over_files last) × ShowsOwn over_files desk) (desk_state desk) question told (desk_state last)
-        → IsPutAway (state over_files last) what → AnswersOnce d image new ends first question told what
-    is_answered desk last (Submit command) told found runs asked answers put =
-        asked_goes_on desk last (Submit command) told found (goes_asking _ _ _ _ asked) runs answers put
-    is_answered desk last Standings told found runs asked answers put =
-        asked_goes_on desk last Standings told found (goes_asking _ _ _ _ asked) runs answers put
-    is_answered desk last (Show view) told found runs asked answers put =
-        asked_goes_on desk last (Show view) told found (goes_asking _ _ _ _ asked) runs answers put
-    is_answered desk last (SlipOf round table) told found runs asked answers put =
-        asked_goes_on desk last (SlipOf round table) told found (goes_asking _ _ _ _ asked) runs answers put
-    is_answered desk last Migrate told found runs moved answers put = λ may.
-        asked_goes_on desk last Migrate told found
-        (goes_moving _ _ _ _ moved (λ clean. may_migrate d image first desk found clean may)) runs answers put
+    -- what was done by a list of names or by clients was done to the desk of the event at the history's end
+    handed : (desk last : Desk (FileStore D d) over_files) → IsFound d image first desk
+        → (HasCleanDisk (state over_files last) → HasCleanDisk (state over_files desk)) → IsFalse (desk_state desk).needs_reopen
+        → (Did : DeskState → Session → DeskState → Type 0) (session : Session) → Did (desk_state desk) session (desk_state last)
+        → ClosesFile (state over_files last) what → WasOpenedClean what
+        → (end : DeskState) × Did (running_at first.point first.version) session end
+    handed desk last found cleans runs Did session did put = put_clean _ (state over_files last) what put (λ clean. (
+      desk_state last,
+      subst (λ (s : DeskState). Did s session (desk_state last))
+          (runs_at (desk_state desk) first runs (found.finds (cleans clean)).found) did,
+    ))
+
+    -- the half of the file
+    goes_on_by : (desk last : Desk (FileStore D d) over_files) → IsFound d image first desk → (work : Work)
+        → WorksOn over_files desk work last → ClosesFile (state over_files last) what → GoesOnBy d image new ends first work what
+    goes_on_by desk last found (Commands session) asked put =
+        goes_to new first ends was.begins from d Stays desk last session found.finds (goes_asking _ _ _ _ asked) what put
+    goes_on_by desk last found (Migration told) moved put = λ may.
+        goes_to new first ends was.begins from d (LeadsToVersion Migrate told) desk last no_session found.finds
+        (goes_moving _ _ _ _ moved (λ clean. may_migrate d image first desk found clean may)) what put
 
     refused_next : (why : OpenFault D d)
-        → ((db : Trees) → HoldsDatabase image db → OnRefused why (λ conn. Leaves (file_state conn) (λ trees. trees ≡ db)))
-        → OnRefused why (λ conn. Leaves (file_state conn) (BeginsIn (Stays first.version) new ends no_session))
+        → ((db : Trees) → HoldsDatabase image db → OnRefused why (λ conn. AfterCrash (file_state conn) (λ trees. trees ≡ db)))
+        → OnRefused why (λ conn. AfterCrash (file_state conn) (BeginsIn (Stays first.version) new ends no_session))
     refused_next (NotOpened refusal left) kept = tt
     refused_next (OpenedInVain conn refusal) kept = λ clean trees may.
         let same : trees ≡ was.left.0 = ∥∥₁_elim was.left.1 (Trees-set _ _) (λ holds. kept was.left.0 holds clean trees may) in (
@@ -390,43 +414,45 @@ module _ (law : NextSessions) (image : Image) (new : Point) (first : Placed) (en
     refused_fault (OpenedInVain conn refusal) why is failed = λ clean. subst IsFault (sym is) (failed clean)
 
     module _ (Spares : Error → Option (Leftover D d) → Type 0) (p : Printed) where
-      does_next : (task : Task) (desk : Desk (FileStore D d) over_files) → IsFalse (desk_state desk).needs_reopen
-          → IsFound d image first desk → OpensFor what p task desk
-          → DoesNext d Spares image new ends first what p task
-      does_next (Ask question) desk runs found it =
-          let (told, answers, asked, tells) = it.does in
-          (told, is_answered desk it.last question told found runs asked answers it.put_away, tells)
-      does_next (Import list) desk runs found it =
-          let (session, imports, asked) = it.does in
-          handed new first ends was.begins from d desk it.last session found.finds (goes_asking _ _ _ _ asked) _ runs imports what
-          it.put_away
-      does_next (Serve port count) desk runs found it =
-          let (session, serves, asked) = it.does in
-          handed new first ends was.begins from d desk it.last session found.finds (goes_asking _ _ _ _ asked) _ runs serves what
-          it.put_away
+      -- the half of what is told
+      answers_task : (task : Task) (desk last : Desk (FileStore D d) over_files) → IsFalse (desk_state desk).needs_reopen
+          → IsFound d image first desk → (HasCleanDisk (state over_files last) → HasCleanDisk (state over_files desk))
+          → ClosesFile (state over_files last) what → (work : Work)
+          → DoesTask (HasCleanDisk (state over_files last) × HoldsOwnEvent over_files desk) (desk_state desk) task work (desk_state last) p
+          → AnswersTask (WasOpenedClean what) first task work p
+      answers_task (Ask question) desk last runs found cleans put work (told, answers, is, tells) = (
+        told,
+        subst (λ (w : Work). AnswersQuestion (WasOpenedClean what) first question told w) (sym is)
+            (answers_question desk last question told found cleans runs answers put),
+        tells,
+      )
+      answers_task (Import list) desk last runs found cleans put work (session, is, did) =
+          (session, is, handed desk last found cleans runs (Imports p) session did put)
+      answers_task (Serve port count) desk last runs found cleans put work (session, is, did) =
+          (session, is, handed desk last found cleans runs (ServesClients p count) session did put)
 
-      pub task_goes_on : (task : Task) (desk : Desk (FileStore D d) over_files) → IsFalse (desk_state desk).needs_reopen
-          → IsFound d image first desk → OpensFor what p task desk
+      pub task_goes_on : (task : Task) (desk last : Desk (FileStore D d) over_files) → IsFalse (desk_state desk).needs_reopen
+          → IsFound d image first desk → Does over_files desk task last p → ClosesFile (state over_files last) what
           → GoesOn d Spares image new ends first what p task
-      task_goes_on task desk runs found it = inr (does_next task desk runs found it)
+      task_goes_on task desk last runs found it put = inl (record {
+        done = it.done;
+        told = answers_task task desk last runs found (work_clean over_files desk it.done last it.file) put it.done it.told;
+        file = goes_on_by desk last found it.done it.file put;
+      })
 
       pub unopened_goes_on : (task : Task) (fault : OpenFault D d) (why : Refusal) → why ≡ why_of fault → IsClearedOf fault what
           → (IsCleanFault fault → IsFault (why_of fault))
-          → ((db : Trees) → HoldsDatabase image db → OnRefused fault (λ conn. Leaves (file_state conn) (λ trees. trees ≡ db)))
+          → ((db : Trees) → HoldsDatabase image db → OnRefused fault (λ conn. AfterCrash (file_state conn) (λ trees. trees ≡ db)))
           → WhereUnopened fault (IsFault (why_of fault)) → OnUnopened fault Spares → Tells (Refused why) p
           → GoesOn d Spares image new ends first what p task
-      unopened_goes_on task fault why is cleared cause kept failed spared tells = inl (
-        Refused why,
-        record {
-          why = why;
-          answered = refl;
-          fault = cleared_clean (IsFault why) fault what cleared (refused_fault fault why is cause);
-          leaves = left_by (Stays first.version) new ends no_session was.begins what (cleared_sound fault what cleared)
-              (cleared_such (BeginsIn (Stays first.version) new ends no_session) fault what cleared (refused_next fault kept));
-          unopened = cleared_unopened Spares fault why what is cleared failed spared;
-        },
-        tells,
-      )
+      unopened_goes_on task fault why is cleared cause kept failed spared tells =
+          let stays : StaysUnopened d Spares new ends first why what = record {
+            fault = cleared_clean (IsFault why) fault what cleared (refused_fault fault why is cause);
+            leaves = left_by (Stays first.version) new ends no_session was.begins what (cleared_sound fault what cleared)
+                (cleared_such (BeginsIn (Stays first.version) new ends no_session) fault what cleared (refused_next fault kept));
+            unopened = cleared_unopened Spares fault why what is cleared failed spared;
+          } in
+          inr (record { done = why; told = tells; file = stays })
 
 module _ {D : Type 0} (d : disk.Ghosts D) (Spares : Error → Option (Leftover D d) → Type 0) (image : Image) (what : Left D d) (p : Printed)
   where
@@ -434,4 +460,4 @@ module _ {D : Type 0} (d : disk.Ghosts D) (Spares : Error → Option (Leftover D
     pub absent_goes_on : (why : Refusal) → (why ≡ NoEvent) ⊎ IsFault why → what ≡ Nothing → Tells (Refused why) p
         → (action : Action) → GoesOnAction d Spares image action what p
     absent_goes_on why cause none tells (Init name rounds cut) = tt
-    absent_goes_on why cause none tells (Open task) = λ new first ends was. inl (Refused why, (none, why, cause, refl), tells)
+    absent_goes_on why cause none tells (Open task) = inl (record { done = why; told = tells; file = (none, cause) })

@@ -1,6 +1,7 @@
 -- Sessions over files that a history left.
 use Rattle.std.proofs.Common.{◌≡◌, ◌++◌, ◌∷◌, [], ℕ, IsTrue, List, MatchResult, inl, IsFalse, Result, Ok, Err, Vec, Global}
-use Rattle.std.proofs.Common.{◌+◌, ◌<◌, length, take, drop, slice_index_or, map, map-id, append_assoc, refl, sym, ap, ap₂, subst, ◌∙◌, arith}
+use Rattle.std.proofs.Common.{◌+◌, ◌<◌, length, take, drop, slice_index_or, map, map-id, append_assoc, refl, sym, ap, ap₂, subst, ◌∙◌}
+use Rattle.std.proofs.Common.{arith}
 use Rattle.std.proofs.Math.Logic.{∥∥₁_elim, ∥∥₁_map}
 use Rattle.std.proofs.lemmas.List.{take_more, take-append-drop}
 use Rattle.sqlite_trees.proofs.Doubt.{no_doubt}
@@ -16,18 +17,18 @@ use Rattle.sqlite.specs.{Tree.Trees, Effect.{Database, IsDatabase}, State.{State
 use Rattle.sqlite.specs.Files.{Finds, HoldsDatabase, IsOpened, file_state, image_of, over_files}
 use Rattle.sqlite_wal.specs.Recovery.{Image}
 use Rattle.er_event.specs.{declared.refusals.Refusal.Refusal, Event.EventValue}
-use Rattle.er_store.specs.{Fault.IsFault, Representing.{IsStoredIn, Leaves, Represents, RepresentsIn}}
+use Rattle.er_store.specs.{Fault.IsFault, Representing.{IsStoredIn, AfterCrash, Represents, RepresentsIn}}
 use Rattle.er_desk.specs.{declared.desk.Desk.Desk, Desk.{Point, Placed, DeskState, IsStoredAt, placed_at, desk_state, state}}
-use Rattle.er_desk.specs.{Run.{Session, no_session}, History.Ended, Opening.SeesStill}
-use Rattle.er_desk.specs.{Headline.{IsBeginning, WasLeftBy, and_then}, Asking.{Asks, NextSessions, GoesOnFrom, SessionsJoin}}
+use Rattle.er_desk.specs.{Run.{Session, no_session}, History.Ended, Opening.HoldsStill}
+use Rattle.er_desk.specs.{Headline.{IsBeginning, RecoversHistory, and_then}, Asking.{Asks, NextSessions, GoesOnFrom, SessionsJoin}}
 use Rattle.er_answers.specs.declared.question.{Question.Question, Told.Told}
 use Rattle.er_cli.specs.declared.left.{Left.Left}
-use Rattle.er_cli.specs.Next.{BeginsIn, WasLeftIn}
+use Rattle.er_cli.specs.Next.{RecoversIn}
 use Rattle.sqlite_wal.specs.{Files.outcomes, Reads.AreClean}
-use Rattle.er_cli.specs.{Left.{AreClosed, IfUnopened}, Next.WasPutAway}
+use Rattle.er_cli.specs.{Left.{HoldSuch, IfUnopened}, Next.WasOpened}
 use Rattle.er_cli.specs.Sessions.{AnswersAll, AreCut, AsksMigration, AsksOver, HoldsNext, HoldsThen, IfCleanFiles}
-use Rattle.er_cli.specs.Sessions.{IsLeftByNext, IsLeftOver, LeadToVersion, MayMoveFor, SparesFiles, VersionLeft}
-use Rattle.er_cli.proofs.Leaving.{put_such, put_clean, put_sound, put_opened, was_put, left_by}
+use Rattle.er_cli.specs.Sessions.{RecoversAfterSession, IsClosedOrKept, LeadToVersion, MayMoveFor, SparesFiles, VersionAfter}
+use Rattle.er_cli.proofs.Leaving.{BeginsIn, put_such, put_clean, put_sound, put_opened, was_put, left_by}
 use Rattle.er_cli.proofs.GoingOn.{IsFound, Stays, ends_nowhere, goes_asking, leaves_next, may_migrate, runs_at}
 use Rattle.er_cli.proofs.Asked.{MayIf, all_over}
 
@@ -57,42 +58,44 @@ module _ {D : Type 0} {d : disk.Ghosts D} where
       }
 
   pub same_left_over : (conn other : Held (FileStore D d)) (now : Result (Files D) (Left D d)) → conn ≡ other
-      → IsLeftOver (file_state conn) now → IsLeftOver (file_state other) now
-  same_left_over conn other now is over = subst (λ (h : Held (FileStore D d)). IsLeftOver (file_state h) now) is over
+      → IsClosedOrKept (file_state conn) now → IsClosedOrKept (file_state other) now
+  same_left_over conn other now is over = subst (λ (h : Held (FileStore D d)). IsClosedOrKept (file_state h) now) is over
 
   -- files that were closed
-  pub closed_cut : (s : State) (files : Files D) → (AreClean d files.log files.db → AreClosed d s files)
+  pub closed_cut : (s : State) (files : Files D) → (AreClean d files.log files.db → HasCleanDisk s × HoldSuch d s.may_leave files)
       → AreClean d files.log files.db → AreCut d s files
   closed_cut s files put = λ clean.
-      let it = put clean in
+      let (was_clean, it) = put clean in
       record {
-        was_clean = it.was_clean;
-        left = λ image may. ∥∥₁_map (it.holds.later image may).both (λ holds.
-            let found : (db : Trees) × s.may_leave db × HoldsDatabase image db = (it.holds.db, it.holds.is, holds) in found);
+        was_clean = was_clean;
+        left = λ image may. ∥∥₁_map (it.later image may).both (λ holds.
+            let found : (db : Trees) × s.may_leave db × HoldsDatabase image db = (it.db, it.is, holds) in found);
       }
 
-  over_clean : (Is : Type 0) (s : State) (now : Result (Files D) (Left D d)) → IsLeftOver s now → (HasCleanDisk s → Is)
+  over_clean : (Is : Type 0) (s : State) (now : Result (Files D) (Left D d)) → IsClosedOrKept s now → (HasCleanDisk s → Is)
       → IfCleanFiles Is now
   over_clean Is s (Ok files) over is = λ clean. is (over clean).was_clean
   over_clean Is s (Err what) over is = put_clean Is s what over is
 
-  over_opened : (files : Files D) (why : Refusal) (s : State) (now : Result (Files D) (Left D d)) → IsLeftOver s now
+  over_opened : (files : Files D) (why : Refusal) (s : State) (now : Result (Files D) (Left D d)) → IsClosedOrKept s now
       → MatchResult now (λ _. Unit {0}) (IfUnopened (SparesFiles files) why)
   over_opened files why s (Ok left) over = tt
   over_opened files why s (Err what) over = put_opened (SparesFiles files) why s what over
 
-  over_put : (s : State) (now : Result (Files D) (Left D d)) → IsLeftOver s now → MatchResult now (λ _. Unit {0}) (λ what. WasPutAway what)
+  over_put : (s : State) (now : Result (Files D) (Left D d)) → IsClosedOrKept s now
+      → MatchResult now (λ _. Unit {0}) (λ what. WasOpened what)
   over_put s (Ok left) over = tt
   over_put s (Err what) over = was_put s what over
 
   over_next : (In : ℕ → Type 0) (new : Point) (ends : List Ended) (session : Session) → IsBeginning new → (s : State)
-      (now : Result (Files D) (Left D d)) → IsLeftOver s now → Leaves s (BeginsIn In new ends session) → IsLeftByNext d In new ends
+      (now : Result (Files D) (Left D d)) → IsClosedOrKept s now → AfterCrash s (BeginsIn In new ends session)
+      → RecoversAfterSession d In new ends
       session now
   over_next In new ends session begins s (Ok files) over leaves = λ clean image may.
       let it = over clean in
       ∥∥₁_map (it.left image may) (λ found.
       let (version, within, next) = leaves it.was_clean found.0 found.1 in
-      let last : WasLeftIn In new ends session image = (
+      let last : RecoversIn In new ends session image = (
         placed_at next.last version,
         within,
         record { begins = begins; history = next.history; left = (found.0, ∣ found.2 ∣₁, next.stored) },
@@ -110,7 +113,7 @@ ran_clean {D} d join desk questions (Err why) now it {Is} is = over_clean Is (st
     (λ clean. is (subst (λ (k : Desk (FileStore D d) over_files). HasCleanDisk (state over_files k)) it.asked.1 clean))
 
 module _ {D : Type 0} (d : disk.Ghosts D) (law : NextSessions) (files : Files D) (new : Point) (first : Placed) (ends : List Ended)
-    (was : WasLeftBy (image_of d files) new ends first) where
+    (was : RecoversHistory (image_of d files) new ends first) where
   from : GoesOnFrom new first.point ends
   from = law new first.point ends was.begins was.history
 
@@ -143,7 +146,7 @@ module _ {D : Type 0} (d : disk.Ghosts D) (law : NextSessions) (files : Files D)
       → (HasCleanDisk (state over_files desk) → HasCleanDisk (file_state conn))
       → (HasCleanDisk (file_state conn) → IsOpened conn) → (HasCleanDisk (file_state conn) → Finds files conn)
       → (HasCleanDisk (state over_files desk) → IsUnchanged (file_state conn) (state over_files desk))
-      → (db : Trees) → HoldsDatabase (image_of d files) db → SeesStill (state over_files desk) db
+      → (db : Trees) → HoldsDatabase (image_of d files) db → HoldsStill (state over_files desk) db
   sees_still conn desk early opened found same db holds = λ clean is_open.
       let it = same clean in
       let was = (opened (early clean)).0.clean in (
@@ -152,8 +155,8 @@ module _ {D : Type 0} (d : disk.Ghosts D) (law : NextSessions) (files : Files D)
       )
 
   pub refused_holds : (questions : List Question) (back : Held (FileStore D d)) (why : Refusal) (now : Result (Files D) (Left D d))
-      → IsLeftOver (file_state back) now
-      → Leaves (file_state back) (BeginsIn (Stays first.version) new ends no_session)
+      → IsClosedOrKept (file_state back) now
+      → AfterCrash (file_state back) (BeginsIn (Stays first.version) new ends no_session)
       → (HasCleanDisk (file_state back) → IsFault why)
       → HoldsNext d new ends first files questions (Err why) now
   refused_holds questions back why now over leaves failed = record {
@@ -180,7 +183,7 @@ module _ {D : Type 0} (d : disk.Ghosts D) (law : NextSessions) (files : Files D)
               (runs_at (desk_state desk) first runs (found.finds (over.1.went.clean clean)).found)
               (over.1.answered clean (λ _. (found.finds (over.1.went.clean clean)).shows) (λ _. may)),
         ));
-        leaves = over_next (VersionLeft questions (Ok them) first.version) new ends over.0 was.begins (state over_files it.last) now
+        leaves = over_next (VersionAfter questions (Ok them) first.version) new ends over.0 was.begins (state over_files it.last) now
             it.let_go
             (leaves_next new first ends was.begins from d (LeadToVersion questions them.items) desk it.last over.0 found.finds
             (record { clean = over.1.went.clean; crash = over.1.went.crash may }));
@@ -213,12 +216,12 @@ so_far {A} all seen x first (few, is) =
 module _ (new : Point) (P Q : List Ended → Placed → Image → Type 0) (questions : Vec Question Global)
     (answers : Result (Vec Told Global) Refusal) where
   abbrev Goes_on : Type 0
-  Goes_on = (ends : List Ended) (first : Placed) (image : Image) → P ends first image → WasLeftBy image new ends first
+  Goes_on = (ends : List Ended) (first : Placed) (image : Image) → P ends first image → RecoversHistory image new ends first
       → HoldsThen new Q ends first image (questions ∷ []) (answers ∷ [])
 
   -- one session more
   pub then_push : Goes_on → (done : List (Vec Question Global)) (before : List (Result (Vec Told Global) Refusal)) (ends : List Ended)
-      (first : Placed) (image : Image) → WasLeftBy image new ends first → HoldsThen new P ends first image done before
+      (first : Placed) (image : Image) → RecoversHistory image new ends first → HoldsThen new P ends first image done before
       → HoldsThen new Q ends first image (done ++ questions ∷ []) (before ++ answers ∷ [])
   then_push goes [] [] ends first image was holds = goes ends first image holds was
   then_push goes [] (r ∷ before) ends first image was holds = absurd holds
@@ -235,14 +238,15 @@ module _ (new : Point) (P Q : List Ended → Placed → Image → Type 0) (quest
 
 module _ {D : Type 0} (d : disk.Ghosts D) (new : Point) (questions : Vec Question Global) (answers : Result (Vec Told Global) Refusal)
     (files : Files D) (left : Result (Files D) (Left D d)) (last now : Files D) (is : left ≡ Ok last)
-    (clean : AreClean d now.log now.db) (last_clean : AreClean d last.log last.db) (may_leave : outcomes d last.log last.db (image_of d now))
-    (holds : (first : Placed) (ends : List Ended) → WasLeftBy (image_of d files) new ends first
+    (clean : AreClean d now.log now.db) (last_clean : AreClean d last.log last.db)
+    (may_leave : outcomes d last.log last.db (image_of d now))
+    (holds : (first : Placed) (ends : List Ended) → RecoversHistory (image_of d files) new ends first
     → MayMoveFor (image_of d files) first questions.items → HoldsNext d new ends first files questions.items answers left) where
-  goes : (ends : List Ended) (first : Placed) (image : Image) → image ≡ image_of d files → WasLeftBy image new ends first
+  goes : (ends : List Ended) (first : Placed) (image : Image) → image ≡ image_of d files → RecoversHistory image new ends first
       → HoldsThen new (λ _ _ then. then ≡ image_of d now) ends first image (questions ∷ []) (answers ∷ [])
   goes ends first image same was = λ may.
       let it = subst (HoldsNext d new ends first files questions.items answers) is
-      (holds first ends (subst (λ (i : Image). WasLeftBy i new ends first) same was)
+      (holds first ends (subst (λ (i : Image). RecoversHistory i new ends first) same was)
       (subst (λ (i : Image). MayMoveFor i first questions.items) same may)) in
       ∥∥₁_map (it.leaves last_clean (image_of d now) may_leave) (λ next. (
         it.session,
@@ -254,7 +258,7 @@ module _ {D : Type 0} (d : disk.Ghosts D) (new : Point) (questions : Vec Questio
         refl,
       ))
 
-  pub holds_more : (ends : List Ended) (first : Placed) (image : Image) → WasLeftBy image new ends first
+  pub holds_more : (ends : List Ended) (first : Placed) (image : Image) → RecoversHistory image new ends first
       → (done : List (Vec Question Global)) (before : List (Result (Vec Told Global) Refusal))
       → HoldsThen new (λ _ _ then. then ≡ image_of d files) ends first image done before
       → HoldsThen new (λ _ _ then. then ≡ image_of d now) ends first image (done ++ questions ∷ []) (before ++ answers ∷ [])

@@ -1,5 +1,5 @@
 -- What is left of a file that was put away, and of an opening that was refused.
-use Rattle.std.proofs.Common.{◌≡◌, ◌⊎◌, ℕ, List, Option, Some, None, refl, sym, subst, arith}
+use Rattle.std.proofs.Common.{◌≡◌, ◌⊎◌, ℕ, List, Option, Some, None, sym, subst, arith}
 use Rattle.sqlite_disk.specs.declared.Disk as disk
 use Rattle.sqlite_disk.specs.declared.Files.{Files}
 use Rattle.sqlite_wal.specs.{Recovery.Image}
@@ -7,10 +7,11 @@ use Rattle.sqlite_trees.specs.View.{IsClean, IsQuiet}
 use Rattle.sqlite_store.specs.declared.store.FileStore.{FileStore}
 use Rattle.sqlite_store.specs.{FileStore.{faults, is_shielded, recovers, view}, Laws.stays_at}
 use Rattle.sqlite.specs.{Tree.Trees, State.{State, HasCleanDisk}, Held.{AreDatabases, Held}, Closing.{HoldsAlone, IsCopied}}
-use Rattle.sqlite.specs.Files.{HoldsDatabase, file_state, image_of, IsClosed}
+use Rattle.sqlite.specs.Effect.{Database, IsDatabase}
+use Rattle.sqlite.specs.Files.{AreFoundIn, HoldsDatabase, file_state, image_of, IsClosed}
 use Rattle.sqlite.specs.declared.{error.Error.Error, file.Leftover.Leftover}
 use Rattle.er_event.specs.declared.refusals.{Refusal.Refusal, Refusal.TheVariants.NoEvent}
-use Rattle.er_store.specs.{Fault.{IsFault, IsLoadFault}, Representing.Leaves}
+use Rattle.er_store.specs.{Fault.{IsFault, IsLoadFault}, Representing.AfterCrash}
 use Rattle.er_desk.specs.Desk.{Point, placed_at}
 use Rattle.er_desk.specs.{Run.Session, History.Ended, Headline.{IsBeginning, NextBegins}}
 use Rattle.er_desk.specs.declared.opening.OpenFault.{OpenFault}
@@ -18,12 +19,19 @@ use Rattle.er_desk.specs.declared.opening.OpenFault.TheVariants as fault
 use Rattle.er_desk.specs.Opening.{NamesFirstFault, NamesFirstFaultIn, OnRefused, OnUnopened, WhereUnopened, why_of}
 use Rattle.er_cli.specs.declared.left.Left.{Left}
 use Rattle.er_cli.specs.declared.left.Left.TheVariants as left
-use Rattle.er_cli.specs.Left.{AreClosed, IfClean, IfUnopened, IsClearedOf, IsPutAway, KeepsAll, LeavesSuch}
-use Rattle.er_answers.specs.declared.question.Told.TheVariants.{Refused}
-use Rattle.er_cli.specs.Files.{IsNotOpened, NamesFirst}
-use Rattle.er_cli.specs.Next.{BeginsIn, FindsNext, IsLeftBy, WasLeftIn, WasPutAway}
+use Rattle.er_cli.specs.Left.{HoldSuch, IfUnopened, IsClearedOf, ClosesFile, KeepsAll, RecoversSuch, WasOpenedClean}
+use Rattle.er_cli.specs.Files.{IsNotOpened}
+use Rattle.er_cli.specs.Next.{FindsNext, RecoversSession, RecoversIn, WasOpened}
 use Rattle.er_cli.proofs.Outcomes.{left_again}
 use Rattle.std.proofs.Math.Logic.{∥∥₁_map}
+
+-- one of these versions, in which the next session begins
+abbrev pub BeginsIn : (ℕ → Type 0) → Point → List Ended → Session → Trees → Type 0
+BeginsIn In new ends session trees = (version : ℕ) × In version × NextBegins new ends session version trees
+
+-- the first fault of what an opening finds in the file
+abbrev NamesFirst : Image → Refusal → Type 0
+NamesFirst image why = (db : Database) × IsDatabase db × AreFoundIn image db.trees × NamesFirstFault db why
 
 -- files that hold an end of the history, with the log and without it, are found by the next command line
 finds : (new : Point) (ends : List Ended) (session : Session) → IsBeginning new → (image : Image) (db : Trees) (version : ℕ)
@@ -37,16 +45,16 @@ module _ {D : Type 0} {d : disk.Ghosts D} where
   -- ---- what the storage crate says of the close
 
   pub are_closed : ((file : D) → d.may_leave file (d.seen file)) → (conn : Held (FileStore D d)) (files : Files D) → IsCopied conn files
-      → AreClosed d (file_state conn) files
-  are_closed stays conn files copied = record {
-    was_clean = copied.was_clean;
-    holds = record {
+      → HasCleanDisk (file_state conn) × HoldSuch d (file_state conn).may_leave files
+  are_closed stays conn files copied = (
+    copied.was_clean,
+    record {
       db = (file_state conn).committed.trees;
       is = stays_at conn.store stays copied.was_open;
       seen = copied.seen;
       later = copied.left;
-    };
-  }
+    },
+  )
 
   pub keeps_all : (conn : Held (FileStore D d)) (store : FileStore D d) → IsClosed conn store → KeepsAll (file_state conn) store
   keeps_all conn store closed = record {
@@ -71,33 +79,34 @@ module _ {D : Type 0} {d : disk.Ghosts D} where
   IsSoundLeft (left.Unclosed store) = IsClean (view store) → AreDatabases (recovers store)
   IsSoundLeft (left.Unopened rest) = Unit {0}
 
-  pub same_put_away : (conn other : Held (FileStore D d)) (what : Left D d) → conn ≡ other → IsPutAway (file_state conn) what
-      → IsPutAway (file_state other) what
-  same_put_away conn other what is put = subst (λ (h : Held (FileStore D d)). IsPutAway (file_state h) what) is put
+  pub same_put_away : (conn other : Held (FileStore D d)) (what : Left D d) → conn ≡ other → ClosesFile (file_state conn) what
+      → ClosesFile (file_state other) what
+  same_put_away conn other what is put = subst (λ (h : Held (FileStore D d)). ClosesFile (file_state h) what) is put
 
   -- ---- what is left
 
-  pub put_such : (Such : Trees → Type 0) (s : State) (what : Left D d) → IsPutAway s what → Leaves s Such → LeavesSuch Such what
+  pub put_such : (Such : Trees → Type 0) (s : State) (what : Left D d) → ClosesFile s what → AfterCrash s Such → RecoversSuch Such what
   put_such Such s left.Nothing none leaves = absurd none
   put_such Such s (left.Closed files) closed leaves = λ clean.
-      let it = closed clean in
-      record { db = it.holds.db; is = leaves it.was_clean it.holds.db it.holds.is; seen = it.holds.seen; later = it.holds.later }
+      let (was_clean, it) = closed clean in
+      record { db = it.db; is = leaves was_clean it.db it.is; seen = it.seen; later = it.later }
   put_such Such s (left.Unclosed store) keeps leaves = λ clean trees may. leaves (keeps.was_clean clean) trees (keeps.as_before trees may)
   put_such Such s (left.Unopened rest) none leaves = absurd none
 
-  pub put_clean : (Is : Type 0) (s : State) (what : Left D d) → IsPutAway s what → (HasCleanDisk s → Is) → IfClean Is what
+  pub put_clean : (Is : Type 0) (s : State) (what : Left D d) → ClosesFile s what → (HasCleanDisk s → Is)
+      → WasOpenedClean what → Is
   put_clean Is s left.Nothing none is = absurd none
-  put_clean Is s (left.Closed files) closed is = λ clean. is (closed clean).was_clean
+  put_clean Is s (left.Closed files) closed is = λ clean. is (closed clean).0
   put_clean Is s (left.Unclosed store) keeps is = λ clean. is (keeps.was_clean clean)
   put_clean Is s (left.Unopened rest) none is = absurd none
 
-  pub was_put : (s : State) (what : Left D d) → IsPutAway s what → WasPutAway what
+  pub was_put : (s : State) (what : Left D d) → ClosesFile s what → WasOpened what
   was_put s left.Nothing none = absurd none
   was_put s (left.Closed files) closed = tt
   was_put s (left.Unclosed store) keeps = tt
   was_put s (left.Unopened rest) none = absurd none
 
-  pub put_opened : (Spares : Error → Option (Leftover D d) → Type 0) (why : Refusal) (s : State) (what : Left D d) → IsPutAway s what
+  pub put_opened : (Spares : Error → Option (Leftover D d) → Type 0) (why : Refusal) (s : State) (what : Left D d) → ClosesFile s what
       → IfUnopened Spares why what
   put_opened Spares why s left.Nothing none = absurd none
   put_opened Spares why s (left.Closed files) closed = tt
@@ -107,19 +116,19 @@ module _ {D : Type 0} {d : disk.Ghosts D} where
   -- ---- of an opening that was refused
 
   pub cleared_such : (Such : Trees → Type 0) (why : OpenFault D d) (what : Left D d) → IsClearedOf why what
-      → OnRefused why (λ conn. Leaves (file_state conn) Such) → LeavesSuch Such what
-  cleared_such Such (fault.Unopened error None) what is leaves = subst (LeavesSuch Such) (sym is) tt
-  cleared_such Such (fault.Unopened error (Some rest)) what is leaves = subst (LeavesSuch Such) (sym is) tt
+      → OnRefused why (λ conn. AfterCrash (file_state conn) Such) → RecoversSuch Such what
+  cleared_such Such (fault.Unopened error None) what is leaves = subst (RecoversSuch Such) (sym is) tt
+  cleared_such Such (fault.Unopened error (Some rest)) what is leaves = subst (RecoversSuch Such) (sym is) tt
   cleared_such Such (fault.Refused conn refusal) what put leaves = put_such Such (file_state conn) what put leaves
 
   pub cleared_clean : (Is : Type 0) (why : OpenFault D d) (what : Left D d) → IsClearedOf why what
-      → OnRefused why (λ conn. HasCleanDisk (file_state conn) → Is) → IfClean Is what
-  cleared_clean Is (fault.Unopened error None) what is leaves = subst (IfClean Is) (sym is) tt
-  cleared_clean Is (fault.Unopened error (Some rest)) what is leaves = subst (IfClean Is) (sym is) tt
+      → OnRefused why (λ conn. HasCleanDisk (file_state conn) → Is) → WasOpenedClean what → Is
+  cleared_clean Is (fault.Unopened error None) what is leaves = λ clean. absurd (subst WasOpenedClean is clean)
+  cleared_clean Is (fault.Unopened error (Some rest)) what is leaves = λ clean. absurd (subst WasOpenedClean is clean)
   cleared_clean Is (fault.Refused conn refusal) what put leaves = put_clean Is (file_state conn) what put leaves
 
   -- a store that was not closed leaves databases
-  pub put_sound : (s : State) (what : Left D d) → IsPutAway s what → IsSoundLeft what
+  pub put_sound : (s : State) (what : Left D d) → ClosesFile s what → IsSoundLeft what
   put_sound s left.Nothing none = absurd none
   put_sound s (left.Closed files) closed = tt
   put_sound s (left.Unclosed store) keeps = keeps.sound
@@ -151,11 +160,9 @@ module _ {D : Type 0} {d : disk.Ghosts D} where
       → said ≡ why_of why → IsClearedOf why what → (why_of why ≡ NoEvent) ⊎ IsLoadFault (why_of why)
       → WhereUnopened why (IsFault (why_of why))
       → OnRefused why (λ conn. HasCleanDisk (file_state conn) → NamesFirstFaultIn image (file_state conn) (why_of why))
-      → ((db : Trees) → HoldsDatabase image db → OnRefused why (λ conn. Leaves (file_state conn) (λ trees. trees ≡ db)))
-      → OnUnopened why Spares → IsNotOpened Spares image what (Refused said)
+      → ((db : Trees) → HoldsDatabase image db → OnRefused why (λ conn. AfterCrash (file_state conn) (λ trees. trees ≡ db)))
+      → OnUnopened why Spares → IsNotOpened Spares image said what
   not_opened Spares image why said what so is cause failed first kept spared = record {
-    why = said;
-    answered = refl;
     cause = subst (λ (w : Refusal). (w ≡ NoEvent) ⊎ IsLoadFault w) (sym so) cause;
     unopened = cleared_unopened Spares why said what so is failed spared;
     first = cleared_clean (NamesFirst image said) why what is (named image why said so first);
@@ -165,7 +172,8 @@ module _ {D : Type 0} {d : disk.Ghosts D} where
   -- ---- the next command line
 
   module _ (In : ℕ → Type 0) (new : Point) (ends : List Ended) (session : Session) (begins : IsBeginning new) where
-    pub left_by : (what : Left D d) → IsSoundLeft what → LeavesSuch (BeginsIn In new ends session) what → IsLeftBy d In new ends session
+    pub left_by : (what : Left D d) → IsSoundLeft what → RecoversSuch (BeginsIn In new ends session) what
+        → RecoversSession d In new ends session
         what
     left_by left.Nothing sound it = tt
     left_by (left.Closed files) sound it = λ clean.
@@ -182,7 +190,7 @@ module _ {D : Type 0} {d : disk.Ghosts D} where
       begins = it clean;
       left = λ numbered image may. ∥∥₁_map (left_again store clean numbered (sound clean) image may) (λ found.
           let (version, within, next) = it clean found.0 found.1 in
-          let last : WasLeftIn In new ends session image = (
+          let last : RecoversIn In new ends session image = (
             placed_at next.last version,
             within,
             record { begins = begins; history = next.history; left = (found.0, ∣ found.2 ∣₁, next.stored) },

@@ -15,3 +15,4 @@ mod Making
 mod Asked
 mod Holding
 mod Lengthening
+mod Helping

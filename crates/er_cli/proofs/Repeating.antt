@@ -10,11 +10,12 @@ use Rattle.er_event.specs.{declared.refusals.Refusal.Refusal, declared.refusals.
 use Rattle.er_event.specs.{declared.refusals.Refusal.TheVariants.{BadName, NameTaken, PlayersFull}, Event.EventValue}
 use Rattle.er_event.specs.Change.{has_name, with_player, new_player}
 use Rattle.er_event.specs.{declared.players.TheConstants.MAX_PLAYERS, Name.is_lawful_name}
-use Rattle.er_rules.specs.{Commands.{first_refusal, is_enrolling, is_swiss}, Step.{Makes, Refuses, Steps, checks}, Fold.Folds, Retry.NamesStay}
-use Rattle.er_desk.specs.{Desk.{Point, DeskState, Turn, point_of}, Reply.{Reply, IsDue}, Run.{Runs, Session, MayEnd, EndsWithDoubt}}
-use Rattle.er_desk.specs.Run.{acknowledged, last_tried, tried_or, session_of}
+use Rattle.er_rules.specs.{Commands.{first_refusal, is_enrolling, is_swiss}, Step.{Makes, Refuses, Steps, checks}, Fold.Folds}
+use Rattle.er_rules.specs.Retry.{NamesStay}
+use Rattle.er_desk.specs.{Desk.{Point, DeskState, Outcome, point_of}, Reply.{Reply, IsDue}, Run.{Runs, Session, MayEnd, EndsWithDoubt}}
+use Rattle.er_desk.specs.Run.{acknowledged_commands, last_tried, tried_or, session_of}
 use Rattle.er_cli.specs.{declared.importing.Additions.Additions, Again.{AddsNobodyAgain, GivesOneImport}}
-use Rattle.er_cli.specs.Importing.{Enrols, is_stop, is_taken, stopping}
+use Rattle.er_cli.specs.Importing.{Enrols, is_stop, is_taken, last_reply}
 use Rattle.er_cli.proofs.Enrolling.{runs_on}
 
 -- ---- what a step makes of a name
@@ -60,7 +61,8 @@ refuses e name is = rw is refl
 abbrev Passed : Bool → Bool → Bool → Type 0
 Passed a b c = (a ≡ false) × (b ≡ false) × (c ≡ false)
 
-fourth : (a b c d f : Bool) → first_refusal ((a, NotEnrolling) ∷ (b, AllRoundsPaired) ∷ (c, BadName) ∷ (d, NameTaken) ∷ (f, PlayersFull) ∷ [])
+fourth : (a b c d f : Bool)
+    → first_refusal ((a, NotEnrolling) ∷ (b, AllRoundsPaired) ∷ (c, BadName) ∷ (d, NameTaken) ∷ (f, PlayersFull) ∷ [])
     ≡ Some NameTaken → Passed a b c × (d ≡ true)
 fourth true b c d f is = cc
 fourth false true c d f is = cc
@@ -69,7 +71,8 @@ fourth false false false true f is = ((refl, refl, refl), refl)
 fourth false false false false true is = cc
 fourth false false false false false is = cc
 
-no_check : (a b c d f : Bool) → first_refusal ((a, NotEnrolling) ∷ (b, AllRoundsPaired) ∷ (c, BadName) ∷ (d, NameTaken) ∷ (f, PlayersFull) ∷ [])
+no_check : (a b c d f : Bool)
+    → first_refusal ((a, NotEnrolling) ∷ (b, AllRoundsPaired) ∷ (c, BadName) ∷ (d, NameTaken) ∷ (f, PlayersFull) ∷ [])
     ≡ None → Passed a b c
 no_check true b c d f is = cc
 no_check false true c d f is = cc
@@ -161,7 +164,7 @@ resumed (name ∷ names) (suc k) e part whole (next, one, rest) (other, two, mor
 abbrev commands_of : List (List ℕ) → List Command
 commands_of names = map Enrol names
 
-turn_ok : (old new : DeskState) (name : List ℕ) (receipt : Receipt) → Turn old (Enrol name) (Ok receipt) new
+turn_ok : (old new : DeskState) (name : List ℕ) (receipt : Receipt) → Outcome old (Enrol name) (Ok receipt) new
     → Steps old.event (Enrol name) (Ok new.event)
 turn_ok old new name receipt h1 = grind (arith, common_steps)
 
@@ -172,11 +175,11 @@ due_taken : (version serial : ℕ) (e : EventValue) (name : List ℕ) → IsDue 
     → Steps e (Enrol name) (Err NameTaken)
 due_taken version serial e name h1 = grind (arith, common_steps)
 
-turn_taken : (old new : DeskState) (name : List ℕ) → Turn old (Enrol name) (Err NameTaken) new
+turn_taken : (old new : DeskState) (name : List ℕ) → Outcome old (Enrol name) (Err NameTaken) new
     → Steps old.event (Enrol name) (Err NameTaken) × (new ≡ old)
 turn_taken old new name h1 = grind (arith, common_steps, due_taken)
 
-turn_refused : (old new : DeskState) (command : Command) (why : Refusal) → Turn old command (Err why) new → point_of new ≡ point_of old
+turn_refused : (old new : DeskState) (command : Command) (why : Refusal) → Outcome old command (Err why) new → point_of new ≡ point_of old
 turn_refused old new command why h1 = grind (arith, common_steps)
 
 goes_on : (reply : Reply) (replies : List Reply) → list_any is_stop (reply ∷ replies) ≡ false
@@ -184,12 +187,12 @@ goes_on : (reply : Reply) (replies : List Reply) → list_any is_stop (reply ∷
 goes_on reply replies is = grind (arith, common_steps)
 
 -- a reply that stops nothing
-passes : (old new : DeskState) (name : List ℕ) (reply : Reply) → Turn old (Enrol name) reply new → is_stop reply ≡ false
+passes : (old new : DeskState) (name : List ℕ) (reply : Reply) → Outcome old (Enrol name) reply new → is_stop reply ≡ false
     → EnrolsOne old.event name new.event
 passes old new name (Ok receipt) turn on = inl (turn_ok old new name receipt turn)
 passes old new name (Err why) turn on =
     let is = name_taken why (was_taken why on) in
-    let it = turn_taken old new name (subst (λ (w : Refusal). Turn old (Enrol name) (Err w) new) is turn) in
+    let it = turn_taken old new name (subst (λ (w : Refusal). Outcome old (Enrol name) (Err w) new) is turn) in
     inr (it.0, ap (λ (s : DeskState). s.event) it.1)
   where
     was_taken : (w : Refusal) → not (is_taken w) ≡ false → is_taken w ≡ true
@@ -221,12 +224,12 @@ EndsSo e kept doubt last =
     Folds e kept last ⊎ MatchOption doubt ⊥ (λ (d : Command). (mid : EventValue) × Folds e kept mid × Steps mid d (Ok last))
 
 may_end : (first last : Point) (session : Session) → MayEnd first session last
-    → EndsSo first.event session.kept session.doubt last.event
+    → EndsSo first.event session.acknowledged session.in_doubt last.event
 may_end first last session (inl kept) = inl kept.event
-may_end first last session (inr doubt) = inr (of_doubt session.doubt doubt)
+may_end first last session (inr doubt) = inr (of_doubt session.in_doubt doubt)
   where
     of_doubt : (o : Option Command) → MatchOption o ⊥ (EndsWithDoubt first session last)
-        → MatchOption o ⊥ (λ (d : Command). (mid : EventValue) × Folds first.event session.kept mid × Steps mid d (Ok last.event))
+        → MatchOption o ⊥ (λ (d : Command). (mid : EventValue) × Folds first.event session.acknowledged mid × Steps mid d (Ok last.event))
     of_doubt None it = absurd it
     of_doubt (Some d) it = (it.mid.event, it.kept.event, it.event)
 
@@ -234,7 +237,7 @@ tried_either : (c : Command) (r : Reply) → (tried_or None c r ≡ None) ⊎ (t
 tried_either h1 r = grind (arith, common_steps)
 
 stopped_tried : (old new : DeskState) (o : Option Command) (c : Command) (r : Reply) → old.needs_reopen ≡ false → new.needs_reopen ≡ true
-    → Turn old c r new → (d : Command) × (tried_or o c r ≡ Some d)
+    → Outcome old c r new → (d : Command) × (tried_or o c r ≡ Some d)
 stopped_tried old new (Some later) c r runs stopped turn = (later, refl)
 stopped_tried old new None c r runs stopped turn = (c, grind (arith, common_steps))
 
@@ -254,7 +257,7 @@ some_tried (c ∷ cs) (r ∷ rs) old new (mid, turn, rest) runs stopped = elim (
 -- the doubt of a run in which one command more went before
 doubt_before : (cs : List Command) (rs : List Reply) (old new : DeskState) (c : Command) (r : Reply) → Runs old cs rs new
     → old.needs_reopen ≡ false
-    → (session_of (c ∷ cs) (r ∷ rs) new.needs_reopen).doubt ≡ (session_of cs rs new.needs_reopen).doubt
+    → (session_of (c ∷ cs) (r ∷ rs) new.needs_reopen).in_doubt ≡ (session_of cs rs new.needs_reopen).in_doubt
 doubt_before cs rs old new c r is runs = elim (cases_Bool new.needs_reopen) [
   | inr still ↦ rw still refl
   | inl stopped ↦
@@ -279,14 +282,14 @@ one_more : (names : List (List ℕ)) (name : List ℕ) (e mid last : EventValue)
 one_more names name e mid last one (k, each) = (suc k, (mid, one, each))
 
 last_of_run : (names : List (List ℕ)) (stop : Option Refusal) (old new : DeskState) (last : EventValue)
-    → Runs old (commands_of (take (length (stopping stop)) names)) (stopping stop) new
-    → EndsSo old.event (session_of (commands_of (take (length (stopping stop)) names)) (stopping stop) new.needs_reopen).kept
-    (session_of (commands_of (take (length (stopping stop)) names)) (stopping stop) new.needs_reopen).doubt last
+    → Runs old (commands_of (take (length (last_reply stop)) names)) (last_reply stop) new
+    → EndsSo old.event (session_of (commands_of (take (length (last_reply stop)) names)) (last_reply stop) new.needs_reopen).acknowledged
+    (session_of (commands_of (take (length (last_reply stop)) names)) (last_reply stop) new.needs_reopen).in_doubt last
     → Cut names old.event last
 last_of_run names None old new last runs (inl is) = (zero, is)
 last_of_run names None old new last runs (inr it) = absurd (none new.needs_reopen it)
   where
-    none : (b : Bool) → MatchOption (session_of [] [] b).doubt ⊥
+    none : (b : Bool) → MatchOption (session_of [] [] b).in_doubt ⊥
         (λ (d : Command). (mid : EventValue) × Folds old.event [] mid × Steps mid d (Ok last)) → ⊥
     none true it = it
     none false it = it
@@ -303,47 +306,54 @@ last_of_run (name ∷ names) (Some why) old new last runs (inr it) = tried new.n
         let (mid, same, steps) = subst Tried is it in
         (suc zero, (last, inl (subst (λ (x : EventValue). Steps x (Enrol name) (Ok last)) same steps), refl))
 
-    tried : (b : Bool) → Tried (session_of (Enrol name ∷ []) (Err why ∷ []) b).doubt → Cut (name ∷ names) old.event last
+    tried : (b : Bool) → Tried (session_of (Enrol name ∷ []) (Err why ∷ []) b).in_doubt → Cut (name ∷ names) old.event last
     tried true it = of_it _ (tried_either (Enrol name) (Err why)) it
     tried false it = absurd it
 
 cut_of : (names : List (List ℕ)) (replies : List Reply) (stop : Option Refusal) (old new : DeskState) (last : EventValue)
     → old.needs_reopen ≡ false → list_any is_stop replies ≡ false
-    → Runs old (commands_of (take (length (replies ++ stopping stop)) names)) (replies ++ stopping stop) new
+    → Runs old (commands_of (take (length (replies ++ last_reply stop)) names)) (replies ++ last_reply stop) new
     → EndsSo old.event
-    (session_of (commands_of (take (length (replies ++ stopping stop)) names)) (replies ++ stopping stop) new.needs_reopen).kept
-    (session_of (commands_of (take (length (replies ++ stopping stop)) names)) (replies ++ stopping stop) new.needs_reopen).doubt last
+    (session_of (commands_of (take (length (replies ++ last_reply stop)) names)) (replies ++ last_reply stop) new.needs_reopen).acknowledged
+    (session_of (commands_of (take (length (replies ++ last_reply stop)) names))
+    (replies ++ last_reply stop) new.needs_reopen).in_doubt last
     → Cut names old.event last
 cut_of names [] stop old new last runs on ran ends = last_of_run names stop old new last ran ends
 cut_of [] (r ∷ replies) stop old new last runs on ran ends = absurd ran
 cut_of (name ∷ names) (r ∷ replies) stop old new last runs on (mid, turn, rest) ends =
     let go = goes_on r replies on in
     let still = runs_on old mid (Enrol name) r turn go.0 in
-    let more = commands_of (take (length (replies ++ stopping stop)) names) in
-    let later = replies ++ stopping stop in
+    let more = commands_of (take (length (replies ++ last_reply stop)) names) in
+    let later = replies ++ last_reply stop in
     let doubt = doubt_before more later mid new (Enrol name) r rest still in
-    let ends : EndsSo old.event (acknowledged (Enrol name ∷ more) (r ∷ later)) (session_of more later new.needs_reopen).doubt last
-    = subst (λ (o : Option Command). EndsSo old.event (acknowledged (Enrol name ∷ more) (r ∷ later)) o last) doubt ends in
+    let ends : EndsSo old.event (acknowledged_commands (Enrol name ∷ more) (r ∷ later))
+    (session_of more later new.needs_reopen).in_doubt last
+    = subst (λ (o : Option Command). EndsSo old.event (acknowledged_commands (Enrol name ∷ more) (r ∷ later)) o last) doubt ends in
     one_more names name old.event mid.event last (passes old mid name r turn go.0)
     (cut_of names replies stop mid new last still go.1 rest (after r turn go.0 ends))
   where
-    after : (r : Reply) → Turn old (Enrol name) r mid → is_stop r ≡ false
-        → EndsSo old.event (acknowledged (Enrol name ∷ commands_of (take (length (replies ++ stopping stop)) names))
-        (r ∷ replies ++ stopping stop))
-        (session_of (commands_of (take (length (replies ++ stopping stop)) names)) (replies ++ stopping stop) new.needs_reopen).doubt last
-        → EndsSo mid.event (acknowledged (commands_of (take (length (replies ++ stopping stop)) names)) (replies ++ stopping stop))
-        (session_of (commands_of (take (length (replies ++ stopping stop)) names)) (replies ++ stopping stop) new.needs_reopen).doubt last
+    after : (r : Reply) → Outcome old (Enrol name) r mid → is_stop r ≡ false
+        → EndsSo old.event (acknowledged_commands (Enrol name ∷ commands_of (take (length (replies ++ last_reply stop)) names))
+        (r ∷ replies ++ last_reply stop))
+        (session_of (commands_of (take (length (replies ++ last_reply stop)) names))
+        (replies ++ last_reply stop) new.needs_reopen).in_doubt last
+        → EndsSo mid.event
+        (acknowledged_commands (commands_of (take (length (replies ++ last_reply stop)) names)) (replies ++ last_reply stop))
+        (session_of (commands_of (take (length (replies ++ last_reply stop)) names))
+        (replies ++ last_reply stop) new.needs_reopen).in_doubt last
     after (Ok receipt) turn on ends = ends_before old.event mid.event name _ _ last (turn_ok old mid name receipt turn) ends
     after (Err why) turn on ends =
         let same : mid.event ≡ old.event = ap (λ (p : Point). p.event) (turn_refused old mid (Enrol name) why turn) in
-        subst (λ (x : EventValue). EndsSo x (acknowledged (commands_of (take (length (replies ++ stopping stop)) names))
-        (replies ++ stopping stop))
-        (session_of (commands_of (take (length (replies ++ stopping stop)) names)) (replies ++ stopping stop) new.needs_reopen).doubt last)
+        subst (λ (x : EventValue). EndsSo x (acknowledged_commands (commands_of (take (length (replies ++ last_reply stop)) names))
+        (replies ++ last_reply stop))
+        (session_of (commands_of (take (length (replies ++ last_reply stop)) names))
+        (replies ++ last_reply stop) new.needs_reopen).in_doubt last)
         (sym same) ends
 
 pub gives_one_import : GivesOneImport
 gives_one_import names old cut first stop one runs it next last again two may more whole only three all =
-    let ends = subst (λ (s : Session). EndsSo old.event s.kept s.doubt next.event) it.asked (may_end (point_of old) (point_of next) one may) in
+    let ends = subst (λ (s : Session). EndsSo old.event s.acknowledged s.in_doubt next.event) it.asked
+    (may_end (point_of old) (point_of next) one may) in
     let (k, part) = cut_of names it.replies stop old cut next.event runs it.goes_on it.ran ends in
     let one_import = whole_of names old whole only three all in
     let rest = resumed names k old.event next.event whole.event part one_import in
@@ -374,7 +384,7 @@ all_taken (suc k) (name ∷ names) e over = (over.0, all_taken k names e over.1)
 
 -- nobody is enrolled
 pub record Nobody (commands : List Command) (replies : List Reply) (old new : DeskState) : Type 0 where
-  pub kept : acknowledged commands replies ≡ []
+  pub kept : acknowledged_commands commands replies ≡ []
   pub none : filter is_ok replies ≡ []
   pub same : point_of new ≡ point_of old
 
@@ -399,9 +409,9 @@ none_before (Err why ∷ replies) more is = none_before replies more is
 pub adds_nobody : NamesStay → AddsNobodyAgain
 adds_nobody stay names old whole first one is between later new folds again stop two it =
     let over = all_over stay names old.event whole.event later.event between (whole_of names old whole first one is) folds in
-    let count = length (it.replies ++ stopping stop) in
-    let none = nobody (take count names) (it.replies ++ stopping stop) later new it.ran (all_taken count names later.event over) in (
-      ap (λ (a : Additions). a.added) it.counted ∙ none_before it.replies (stopping stop) none.none,
-      ap (λ (s : Session). s.kept) it.asked ∙ none.kept,
+    let count = length (it.replies ++ last_reply stop) in
+    let none = nobody (take count names) (it.replies ++ last_reply stop) later new it.ran (all_taken count names later.event over) in (
+      ap (λ (a : Additions). a.added) it.counted ∙ none_before it.replies (last_reply stop) none.none,
+      ap (λ (s : Session). s.acknowledged) it.asked ∙ none.kept,
       none.same,
     )

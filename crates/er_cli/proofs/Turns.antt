@@ -3,7 +3,7 @@ use Rattle.std.proofs.Common.{ℕ, IsFalse, Option, Some, None, Result, Ok, Err,
 use Rattle.std.specs.Prelude.{⊤}
 use Rattle.er_event.specs.{declared.refusals.Refusal.Refusal, declared.refusals.Refusal.TheVariants.{Memory, NoSuchMatch}}
 use Rattle.er_event.specs.declared.commands.Command.{Command}
-use Rattle.er_desk.specs.{Desk.{DeskState, Turn, Reads}, Migrating.Migrates, Reply.Reply}
+use Rattle.er_desk.specs.{Desk.{DeskState, Outcome, Reads}, Migrating.Migrates, Reply.Reply}
 use Rattle.er_answers.specs.{Answers.{AnswersDesk, DoesAsked}, declared.question.{Question.Question, Told.Told}}
 use Rattle.er_answers.specs.declared.question.Question.TheVariants.{Submit, Standings, Show, Slip as SlipOf, Migrate}
 use Rattle.er_answers.specs.declared.question.Told.TheVariants.{Refused}
@@ -14,7 +14,7 @@ pub memory_answers : (old : Option DeskState) (action : Option Action) → LineA
 memory_answers old None = (inr refl, refl)
 memory_answers old (Some action) = inr (refl, refl)
 
-ran_on : (old new : DeskState) (command : Command) (reply : Reply) → Turn old command reply new → IsFalse new.needs_reopen
+ran_on : (old new : DeskState) (command : Command) (reply : Reply) → Outcome old command reply new → IsFalse new.needs_reopen
     → IsFalse old.needs_reopen
 ran_on old new command reply (inl it) runs = it.was_running
 ran_on old new command reply (inr (inl it)) runs = it.was_running

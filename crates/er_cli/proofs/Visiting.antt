@@ -5,7 +5,7 @@ use Rattle.std.proofs.lemmas.{Bool.cases_Bool, List.append_assoc}
 use Rattle.std.specs.Io.KnownBytes.{Appends}
 use Rattle.sqlite_trees.specs.declared.store.Store.{Ghosts}
 use Rattle.sqlite.specs.State.{HasCleanDisk}
-use Rattle.er_desk.specs.{declared.desk.Desk.Desk, Asking.Asks, Desk.{DeskState, ShowsOwn, desk_state, state}, Run.Session}
+use Rattle.er_desk.specs.{declared.desk.Desk.Desk, Asking.Asks, Desk.{DeskState, HoldsOwnEvent, desk_state, state}, Run.Session}
 use Rattle.er_slips.specs.{declared.serve.Served.Served, declared.serve.Served.TheVariants.{Answered, ReadFault, WriteFault}}
 use Rattle.er_slips.specs.Serving.{IsWritten}
 use Rattle.er_cli.specs.{Serving.Connects, Clients.{Got, GetEach, GetsAnswer, GetsLast, IsNextClient, KnewBefore, ServesKnown}}
@@ -33,16 +33,16 @@ module _ {S : Type 0} (g : Ghosts S) (old new : Desk S g) (session : Session)
   -- the next client was served
   serves_next : (inputs : List (List ℕ)) (before all : List Got) (reads wrote after : Option (List ℕ)) (was r w : Bool) (served : Served)
       (coming then : Option (List (List ℕ))) → IsNextClient inputs reads wrote was coming
-      → IfSome reads (λ input. IsFalse (desk_state old).needs_reopen → HasCleanDisk (state g new) × ShowsOwn g old
+      → IfSome reads (λ input. IsFalse (desk_state old).needs_reopen → HasCleanDisk (state g new) × HoldsOwnEvent g old
       → IsWritten (desk_state old) input wrote after served)
       → tells r w served ≡ true → then ≡ coming → GetsLast (Some before) after (r || w) (Some all)
       → ServesSome g 1 inputs before old then all new
   serves_next inputs before all reads wrote after was r w served coming then (input, rest, is, sends, nothing, fine, others) written told
       same gets =
       let on_input = subst (λ (o : Option (List ℕ)). IfSome o (λ xs. IsFalse (desk_state old).needs_reopen
-      → HasCleanDisk (state g new) × ShowsOwn g old → IsWritten (desk_state old) xs wrote after served)) sends written in
+      → HasCleanDisk (state g new) × HoldsOwnEvent g old → IsWritten (desk_state old) xs wrote after served)) sends written in
       let from_nothing = subst (λ (o : Option (List ℕ)). IsFalse (desk_state old).needs_reopen
-      → HasCleanDisk (state g new) × ShowsOwn g old → IsWritten (desk_state old) input o after served) nothing on_input in
+      → HasCleanDisk (state g new) × HoldsOwnEvent g old → IsWritten (desk_state old) input o after served) nothing on_input in
       record {
         came = input ∷ [];
         rest = rest;
@@ -60,9 +60,10 @@ module _ {S : Type 0} (g : Ghosts S) (old new : Desk S g) (session : Session)
         );
       }
 
-  pub known_next : (a : Option (List (List ℕ))) (b : Option (List Got)) (reads wrote after : Option (List ℕ)) (was r w : Bool) (served : Served)
+  pub known_next : (a : Option (List (List ℕ))) (b : Option (List Got)) (reads wrote after : Option (List ℕ)) (was r w : Bool)
+      (served : Served)
       (coming then : Option (List (List ℕ))) (got : Option (List Got)) → IfSome a (λ inputs. IsNextClient inputs reads wrote was coming)
-      → IfSome reads (λ input. IsFalse (desk_state old).needs_reopen → HasCleanDisk (state g new) × ShowsOwn g old
+      → IfSome reads (λ input. IsFalse (desk_state old).needs_reopen → HasCleanDisk (state g new) × HoldsOwnEvent g old
       → IsWritten (desk_state old) input wrote after served)
       → tells r w served ≡ true → then ≡ coming → GetsLast b after (r || w) got → ServesKnown g 1 a b old then got new
   known_next None b reads wrote after was r w served coming then got comes written told same gets = tt
@@ -71,7 +72,8 @@ module _ {S : Type 0} (g : Ghosts S) (old new : Desk S g) (session : Session)
   known_next (Some inputs) (Some before) reads wrote after was r w served coming then (Some all) comes written told same gets =
       serves_next inputs before all reads wrote after was r w served coming then comes written told same gets
 
-pub knew_next : (old : Option (List Got)) (after : Option (List ℕ)) (failed : Bool) (new : Option (List Got)) → GetsLast old after failed new
+pub knew_next : (old : Option (List Got)) (after : Option (List ℕ)) (failed : Bool) (new : Option (List Got))
+    → GetsLast old after failed new
     → KnewBefore old new
 knew_next old after failed None gets = tt
 knew_next None after failed (Some all) gets = absurd gets

@@ -9,7 +9,8 @@ use Rattle.er_values.specs.declared.values.ExportKind.{ExportKind}
 use Rattle.er_values.specs.declared.values.ExportKind.TheVariants as list
 use Rattle.er_words.specs.Fields.{script_line}
 use Rattle.er_words.specs.declared.line.Line.{Line}
-use Rattle.er_words.specs.declared.line.Line.TheVariants.{Init, Enrol, Import, Start, Pair, Result as Report, Correct, Drop, Cut, Playoff}
+use Rattle.er_words.specs.declared.line.Line.TheVariants.{Init, Enrol, Import, Start, Pair, Result as ReportResult, Correct, Drop, Cut}
+use Rattle.er_words.specs.declared.line.Line.TheVariants.{Playoff}
 use Rattle.er_words.specs.declared.line.Line.TheVariants.{Standings, Players, Slips, Bracket, Export, Serve, Migrate}
 use Rattle.er_cli.specs.declared.action.Action.{Action}
 use Rattle.er_cli.specs.declared.action.Action.TheVariants as action
@@ -21,7 +22,7 @@ file_of (Enrol file name) = file
 file_of (Import file list) = file
 file_of (Start file) = file
 file_of (Pair file round seed) = file
-file_of (Report file round table score) = file
+file_of (ReportResult file round table score) = file
 file_of (Correct file round table score) = file
 file_of (Drop file player) = file
 file_of (Cut file) = file
@@ -50,7 +51,7 @@ action_of (Enrol file name) = asks (question.Submit (command.Enrol name))
 action_of (Import file list) = action.Open (task.Import list)
 action_of (Start file) = asks (question.Submit command.Start)
 action_of (Pair file round seed) = asks (question.Submit (command.Pair round seed))
-action_of (Report file round table score) = asks (question.Submit (command.Result round table score))
+action_of (ReportResult file round table score) = asks (question.Submit (command.Result round table score))
 action_of (Correct file round table score) = asks (question.Submit (command.Correct round table score))
 action_of (Drop file player) = asks (question.Submit (command.Drop player))
 action_of (Cut file) = asks (question.Submit command.Cut)

@@ -14,7 +14,7 @@ AddsNobodyAgain =
     (names : List (List ℕ)) (old whole : DeskState) (first : Additions) (one : Session) → Enrols names old first None one whole
     → (between : List Command) (later new : DeskState) → Folds whole.event between later.event
     → (again : Additions) (stop : Option Refusal) (two : Session) → Enrols names later again stop two new
-    → (again.added ≡ 0) × (two.kept ≡ []) × (point_of new ≡ point_of later)
+    → (again.added ≡ 0) × (two.acknowledged ≡ []) × (point_of new ≡ point_of later)
 
 -- Of an import that was stopped anywhere, the next session begins at an end of its session. Imported whole there, the list gives the event
 -- of one import.

@@ -3,7 +3,7 @@ use Rattle.std.specs.Prelude.{◌≡◌, ℕ, Bool, true, false, IsFalse, List, 
 use Rattle.sqlite_trees.specs.declared.store.Store.{Ghosts}
 use Rattle.sqlite.specs.State.{HasCleanDisk}
 use Rattle.er_desk.specs.declared.desk.Desk.{Desk}
-use Rattle.er_desk.specs.Desk.{DeskState, ShowsOwn, desk_state, state}
+use Rattle.er_desk.specs.Desk.{DeskState, HoldsOwnEvent, desk_state, state}
 use Rattle.er_desk.specs.Run.{Session}
 use Rattle.er_slips.specs.declared.serve.Served.{Served}
 use Rattle.er_slips.specs.declared.serve.Served.TheVariants.{Answered, ReadFault, WriteFault}
@@ -58,11 +58,12 @@ pub record ServesSome {S : Type 0} (g : Ghosts S) (count : ℕ) (inputs : List (
   pub many : length came ≡ count
   pub coming_then : coming ≡ Some rest
   pub got_then : all ≡ before ++ gots
-  pub each : HasCleanDisk (state g new) → (IsFalse (desk_state old).needs_reopen → ShowsOwn g old)
+  pub each : HasCleanDisk (state g new) → (IsFalse (desk_state old).needs_reopen → HoldsOwnEvent g old)
       → GetEach (desk_state old) came gots (desk_state new)
 
 -- The same of clients of whom it is known what they will send, and then what they got.
-abbrev pub ServesKnown : {S : Type 0} (g : Ghosts S) (count : ℕ) (inputs : Option (List (List ℕ))) (before : Option (List Got)) (old : Desk S g)
+abbrev pub ServesKnown : {S : Type 0} (g : Ghosts S) (count : ℕ) (inputs : Option (List (List ℕ))) (before : Option (List Got))
+    (old : Desk S g)
     (coming : Option (List (List ℕ))) (got : Option (List Got)) (new : Desk S g) → Type 0
 ServesKnown g count None before old coming got new = Unit {0}
 ServesKnown g count (Some inputs) before old coming None new = Unit {0}

@@ -31,23 +31,18 @@ place_of (BadSeed place) = place
 place_of (BadCount place) = place
 place_of (BadKind place) = place
 
--- how the subcommand of this name is called, or where to look
-abbrev pub advice : List ℕ → List ℕ
-advice name = unwrap_or (subcommand_text name) TRY_HELP.now
-
 -- the word at fault, where there is one
-abbrev pub opened : Option (List ℕ) → List ℕ
-opened None = codes "event_reporter: "
-opened (Some word) = ((codes "event_reporter: " ++ codes "`") ++ word) ++ codes "` "
+abbrev pub complaint_head : Option (List ℕ) → List ℕ
+complaint_head None = codes "event_reporter: "
+complaint_head (Some word) = ((codes "event_reporter: " ++ codes "`") ++ word) ++ codes "` "
 
-abbrev pub complaint_with : List (List ℕ) → UsageFault → List ℕ → List ℕ
-complaint_with words fault advice = (opened (slice_get words (place_of fault)) ++ what_is_wrong fault) ++ advice
-
--- the first fault is named, and how to go on; words that are no text come as none
+-- The first fault is named, and how the subcommand is called, or where to look. Words that are no text come as none.
 abbrev pub Complains : List (List ℕ) → List ℕ → Type 0
 Complains [] text = text ≡ NO_TEXT.now
 Complains (name ∷ words) text =
-    (fault : UsageFault) × (fault_of (name ∷ words) ≡ Some fault) × (text ≡ complaint_with (name ∷ words) fault (advice name))
+    (fault : UsageFault) × (fault_of (name ∷ words) ≡ Some fault)
+    × (text ≡ (complaint_head (slice_get (name ∷ words) (place_of fault)) ++ what_is_wrong fault)
+    ++ unwrap_or (subcommand_text name) TRY_HELP.now)
 
 -- What is wrong goes to the errors, or that memory is wanting. The output stays as it is.
 abbrev pub EndsAsUsage : List (List ℕ) → Printed → Type 0

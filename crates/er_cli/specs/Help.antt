@@ -1,12 +1,13 @@
 -- What the words of a command line are answered.
-use Rattle.std.specs.Prelude.{◌≡◌, ◌⊎◌, ℕ, ◌||◌, Bool, if◌then◌else◌, List, [], ◌∷◌, Option, Some, None, option_and_then}
-use Rattle.std.specs.Prelude.{codes}
+use Rattle.std.specs.Prelude.{◌≡◌, ◌⊎◌, ℕ, ◌&&◌, ◌||◌, Bool, false, if◌then◌else◌, List, [], ◌∷◌, Option, Some, None, is_some}
+use Rattle.std.specs.Prelude.{option_and_then, codes}
 use Rattle.std.specs.Str.{bytes_eq}
 use Rattle.std.specs.Io.KnownBytes.{Appends}
 use Rattle.er_event.specs.declared.refusals.Refusal.{Refusal}
 use Rattle.er_event.specs.declared.refusals.Refusal.TheVariants.{Memory, NeedsReopen, Store}
 use Rattle.er_answers.specs.declared.question.Told.{Told}
 use Rattle.er_answers.specs.declared.question.Told.TheVariants.{Refused}
+use Rattle.er_words.specs.Line.{subcommand_of}
 use Rattle.er_cli.specs.Texts.{told_text, AppendsPart}
 use Rattle.er_cli.specs.declared.TheConstants.{DONE, REFUSED, DEVICE, MEMORY}
 use Rattle.er_cli.specs.declared.help.TheConstants.{VERSION, HELP, INIT, ENROL, IMPORT, START, PAIR, RESULT, CORRECT, DROP, CUT, PLAYOFF}
@@ -18,8 +19,9 @@ is_help word = bytes_eq word (codes "--help") || bytes_eq word (codes "-h")
 abbrev pub is_version : List ℕ → Bool
 is_version word = bytes_eq word (codes "--version") || bytes_eq word (codes "-V")
 
-abbrev pub option_text : List ℕ → Option (List ℕ)
-option_text word = if is_help word then Some HELP.now else (if is_version word then Some VERSION.now else None)
+-- what an option asks for: this help, or the version
+abbrev pub option_text : (help word : List ℕ) → Option (List ℕ)
+option_text help word = if is_help word then Some help else (if is_version word then Some VERSION.now else None)
 
 -- what there is to know of each subcommand
 abbrev pub help_texts : List (List ℕ × List ℕ)
@@ -51,18 +53,17 @@ text_in (known ∷ texts) name = if bytes_eq name known.0 then Some known.1 else
 abbrev pub subcommand_text : List ℕ → Option (List ℕ)
 subcommand_text = text_in help_texts
 
--- the text of the subcommand, or the version, behind the name of one
-abbrev pub text_behind : List ℕ → List ℕ → Option (List ℕ)
-text_behind name word =
-    option_and_then
-    (λ text. if is_help word then Some text else (if is_version word then Some VERSION.now else None))
-    (subcommand_text name)
-
 -- the text that the words ask for: an option alone, or behind a subcommand
 abbrev pub text_for : List (List ℕ) → Option (List ℕ)
-text_for (word ∷ []) = option_text word
-text_for (name ∷ word ∷ []) = text_behind name word
+text_for (word ∷ []) = option_text HELP.now word
+text_for (name ∷ word ∷ []) = option_and_then (λ help. option_text help word) (subcommand_text name)
 text_for _ = None
+
+-- whether they ask for one
+abbrev pub asks_text : List (List ℕ) → Bool
+asks_text (word ∷ []) = is_help word || is_version word
+asks_text (name ∷ word ∷ []) = is_some (subcommand_of name) && (is_help word || is_version word)
+asks_text _ = false
 
 -- ---- where an answer goes, and the status that comes with it
 
@@ -87,8 +88,8 @@ pub record Printed : Type 0 where
   pub err : Stream
   pub status : ℕ
 
-abbrev pub printed : (out out_then err err_then : Option (List ℕ)) → ℕ → Printed
-printed out out_then err err_then status = record { out = stream out out_then; err = stream err err_then; status = status }
+abbrev pub prints : (out out_then err err_then : Option (List ℕ)) → ℕ → Printed
+prints out out_then err err_then status = record { out = stream out out_then; err = stream err err_then; status = status }
 
 -- The text goes to a stream, with the status that is due. Where a write fails, a beginning of the text is there, and the status
 -- is the device's.

@@ -36,40 +36,33 @@ abbrev pub is_stop : Reply → Bool
 is_stop (Ok receipt) = false
 is_stop (Err why) = not (is_taken why)
 
-abbrev pub additions_of : List Reply → Additions
-additions_of replies = record { added = length (filter is_ok replies); already = length (filter is_already replies) }
-
-abbrev pub stopping : Option Refusal → List Reply
-stopping None = []
-stopping (Some why) = Err why ∷ []
+abbrev pub last_reply : Option Refusal → List Reply
+last_reply None = []
+last_reply (Some why) = Err why ∷ []
 
 -- Each name is one command, in order, until there is none or one is refused otherwise than as taken.
 pub record Enrols (names : List (List ℕ)) (old : DeskState) (additions : Additions) (stop : Option Refusal) (session : Session)
     (new : DeskState) : Type 0 where
   pub replies : List Reply
-  pub ran : Runs old (map Enrol (take (length (replies ++ stopping stop)) names)) (replies ++ stopping stop) new
+  pub ran : Runs old (map Enrol (take (length (replies ++ last_reply stop)) names)) (replies ++ last_reply stop) new
   -- these commands are the session
-  pub asked : session ≡ session_of (map Enrol (take (length (replies ++ stopping stop)) names)) (replies ++ stopping stop) new.needs_reopen
-  pub counted : additions ≡ additions_of replies
+  pub asked : session ≡ session_of (map Enrol (take (length (replies ++ last_reply stop)) names))
+      (replies ++ last_reply stop) new.needs_reopen
+  pub counted : additions ≡ record { added = length (filter is_ok replies); already = length (filter is_already replies) }
   pub goes_on : IsFalse (list_any is_stop replies)
   pub all : stop ≡ None → length replies ≡ length names
   pub ends : IfSome stop (λ why. IsTrue (is_stop (Err why)))
 
-abbrev pub names_of : List PlayerLine → List (List ℕ)
-names_of = map (λ line. line.name)
-
 -- ---- what is printed
-
-abbrev pub additions_text : Additions → List ℕ
-additions_text additions = codes "added " ++ (decimal additions.added ++ (codes " already " ++ (decimal additions.already ++ (10 ∷ []))))
 
 -- the additions go to the output, and then the refusal that ended the import to the errors
 abbrev pub PrintsAdditions : Additions → Option Refusal → Printed → Type 0
 PrintsAdditions additions stop p =
-    (Appends p.out.before p.out.after (additions_text additions)
+    let text = codes "added " ++ (decimal additions.added ++ (codes " already " ++ (decimal additions.already ++ (10 ∷ [])))) in
+    (Appends p.out.before p.out.after text
     × MatchOption stop ((p.status ≡ DONE) × (p.err.after ≡ p.err.before))
     (λ why. PutsText (told_text (Refused why)) (refusal_status why) p.err p.status))
-    ⊎ ((p.status ≡ DEVICE) × AppendsPart p.out.before p.out.after (additions_text additions) × (p.err.after ≡ p.err.before))
+    ⊎ ((p.status ≡ DEVICE) × AppendsPart p.out.before p.out.after text × (p.err.after ≡ p.err.before))
 
 -- what is said of a list that has a fault
 abbrev pub fault_text : CsvFault → List ℕ
@@ -82,23 +75,14 @@ abbrev pub EnrolsNobody : DeskState → Session → DeskState → Type 0
 EnrolsNobody old session new = (new ≡ old) × (session ≡ no_session)
 
 module _ (p : Printed) where
-  -- the names are handed to the desk, and the additions are printed
-  pub record Hands (names : List (List ℕ)) (old : DeskState) (session : Session) (new : DeskState) : Type 0 where
-    pub additions : Additions
-    pub stop : Option Refusal
-    pub enrols : Enrols names old additions stop session new
-    pub prints : PrintsAdditions additions stop p
-
-  -- the fault of a list is named; a list without one is enrolled
+  -- the fault of a list is named; of a list without one the names are handed to the desk, and the additions are printed
   abbrev pub TakesList : List ℕ → DeskState → Session → DeskState → Type 0
   TakesList list old session new =
       ((fault : CsvFault) × (fault ≢ csv.Memory) × ReadsPlayers list (Err fault) × EnrolsNobody old session new
       × Says (fault_text fault) REFUSED p.err p.out p.status)
-      ⊎ ((lines : List PlayerLine) × ReadsPlayers list (Ok lines) × Hands (names_of lines) old session new)
-
-  -- Memory is wanting for a list, or it is taken.
-  abbrev pub ImportsList : List ℕ → DeskState → Session → DeskState → Type 0
-  ImportsList list old session new = (EnrolsNobody old session new × Tells (Refused Memory) p) ⊎ TakesList list old session new
+      ⊎ ((lines : List PlayerLine) × ReadsPlayers list (Ok lines)
+      × ((additions : Additions) × (stop : Option Refusal) × Enrols (map (λ line. line.name) lines) old additions stop session new
+      × PrintsAdditions additions stop p))
 
   -- The list can't be read, or memory is wanting for it, or it is taken. Nobody is enrolled but by the last.
   abbrev pub Imports : DeskState → Session → DeskState → Type 0

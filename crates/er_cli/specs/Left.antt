@@ -16,7 +16,7 @@ use Rattle.sqlite.specs.Files.{image_of, file_state}
 use Rattle.sqlite.specs.declared.error.Error.{Error}
 use Rattle.sqlite.specs.declared.file.Leftover.{Leftover}
 use Rattle.er_event.specs.declared.refusals.Refusal.{Refusal}
-use Rattle.er_store.specs.Fault.{IsFault, refusal_of}
+use Rattle.er_store.specs.Fault.{IsFault, store_refusal}
 use Rattle.er_desk.specs.declared.opening.OpenFault.{OpenFault}
 use Rattle.er_desk.specs.declared.opening.OpenFault.TheVariants as fault
 use Rattle.er_cli.specs.declared.left.Left.{Left}
@@ -29,32 +29,27 @@ pub record HoldSuch {D : Type 0} (d : disk.Ghosts D) (Such : Trees → Type 0) (
   pub seen : HoldsAlone (image_of d files) db
   pub later : (image : Image) → outcomes d files.log files.db image → HoldsAlone image db
 
--- closed files hold one of the things that a crash could leave before
-pub record AreClosed {D : Type 0} (d : disk.Ghosts D) (s : State) (files : Files D) : Type 0 where
-  pub was_clean : HasCleanDisk s
-  pub holds : HoldSuch d s.may_leave files
-
 module _ {D : Type 0} {d : disk.Ghosts D} where
   -- On a clean disk the next opening of what is left finds such a database. Of files that were not opened nothing is said.
-  abbrev pub LeavesSuch : (Trees → Type 0) → Left D d → Type 0
-  LeavesSuch Such left.Nothing = Unit {0}
-  LeavesSuch Such (left.Closed files) = AreClean d files.log files.db → HoldSuch d Such files
-  LeavesSuch Such (left.Unclosed store) = IsClean (view store) → (trees : Trees) → recovers store trees → Such trees
-  LeavesSuch Such (left.Unopened rest) = Unit {0}
+  abbrev pub RecoversSuch : (Trees → Type 0) → Left D d → Type 0
+  RecoversSuch Such left.Nothing = Unit {0}
+  RecoversSuch Such (left.Closed files) = AreClean d files.log files.db → HoldSuch d Such files
+  RecoversSuch Such (left.Unclosed store) = IsClean (view store) → (trees : Trees) → recovers store trees → Such trees
+  RecoversSuch Such (left.Unopened rest) = Unit {0}
 
-  -- where a file was opened, and its disk is clean
-  abbrev pub IfClean : Type 0 → Left D d → Type 0
-  IfClean Is left.Nothing = Unit {0}
-  IfClean Is (left.Closed files) = AreClean d files.log files.db → Is
-  IfClean Is (left.Unclosed store) = IsClean (view store) → Is
-  IfClean Is (left.Unopened rest) = Unit {0}
+  -- a file was opened, and its disk is clean
+  abbrev pub WasOpenedClean : Left D d → Type 0
+  WasOpenedClean left.Nothing = ⊥
+  WasOpenedClean (left.Closed files) = AreClean d files.log files.db
+  WasOpenedClean (left.Unclosed store) = IsClean (view store)
+  WasOpenedClean (left.Unopened rest) = ⊥
 
   -- Where no file was opened, why. `Spares` is what the storage crate says of what is left then.
   abbrev pub IfUnopened : (Error → Option (Leftover D d) → Type 0) → Refusal → Left D d → Type 0
-  IfUnopened Spares why left.Nothing = (error : Error) × (why ≡ refusal_of error) × IsFault why × Spares error None
+  IfUnopened Spares why left.Nothing = (error : Error) × (why ≡ store_refusal error) × IsFault why × Spares error None
   IfUnopened Spares why (left.Closed files) = Unit {0}
   IfUnopened Spares why (left.Unclosed store) = Unit {0}
-  IfUnopened Spares why (left.Unopened rest) = (error : Error) × (why ≡ refusal_of error) × IsFault why × Spares error (Some rest)
+  IfUnopened Spares why (left.Unopened rest) = (error : Error) × (why ≡ store_refusal error) × IsFault why × Spares error (Some rest)
 
   -- where they were not closed, a crash leaves nothing that it could not leave before
   pub record KeepsAll (s : State) (store : FileStore D d) : Type 0 where
@@ -62,15 +57,16 @@ module _ {D : Type 0} {d : disk.Ghosts D} where
     pub as_before : (trees : Trees) → recovers store trees → s.may_leave trees
     pub sound : IsClean (view store) → AreDatabases (recovers store)
 
-  -- The file of this state was closed, or not.
-  abbrev pub IsPutAway : State → Left D d → Type 0
-  IsPutAway s left.Nothing = ⊥
-  IsPutAway s (left.Closed files) = AreClean d files.log files.db → AreClosed d s files
-  IsPutAway s (left.Unclosed store) = KeepsAll s store
-  IsPutAway s (left.Unopened rest) = ⊥
+  -- The file of this state was closed, and holds one of the things that a crash could leave before. Or it was not closed, and a crash
+  -- leaves nothing new.
+  abbrev pub ClosesFile : State → Left D d → Type 0
+  ClosesFile s left.Nothing = ⊥
+  ClosesFile s (left.Closed files) = AreClean d files.log files.db → HasCleanDisk s × HoldSuch d s.may_leave files
+  ClosesFile s (left.Unclosed store) = KeepsAll s store
+  ClosesFile s (left.Unopened rest) = ⊥
 
   -- What is left of an opening that was refused: its file, put away. Of files that were not opened, what is left comes back as it is.
   abbrev pub IsClearedOf : OpenFault D d → Left D d → Type 0
   IsClearedOf (fault.Unopened error None) what = what ≡ left.Nothing
   IsClearedOf (fault.Unopened error (Some rest)) what = what ≡ left.Unopened rest
-  IsClearedOf (fault.Refused conn refusal) what = IsPutAway (file_state conn) what
+  IsClearedOf (fault.Refused conn refusal) what = ClosesFile (file_state conn) what

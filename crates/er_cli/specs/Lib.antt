@@ -1,11 +1,14 @@
 -- What er_cli promises: what a command line prints, where, and with which status; what a script prints; and what
 -- serving and importing do.
 --
--- Action is what a line has done; Files is a command line over a file, Left what is left of that, and Help
--- one over none. Script and Input are a script and its lines, Status how it ends. Importing is a list of players, Again one
--- that is imported again, Serving the clients of a listener. Texts says what a writer holds after an answer, Setup what an
--- event is set up with, and Complaints what a person is told of words that are no line. GoingOn is a command line over the file that a history
--- left, and Next what it leaves there.
+-- A command line has two halves. The first is what is told: words, an event and text, and no file. Action is what a line has done, Setup
+-- what an event is set up with, and Tasks what is done with one that was opened; Importing is a list of players, Again one that is imported
+-- again, Serving the clients of a listener. Help is what asks for a text, and where an answer goes, Texts what a writer holds then, and
+-- Complaints what a person is told of words that are no line. Script and Input are a script and its lines, Status how it ends.
+--
+-- The second is what the file becomes, with no text. Left is what is left of it, Files what a line does to a file that may hold anything,
+-- GoingOn to one that a history left, and Next how the next line finds it. Words joins the halves. Sessions are many command lines over
+-- the same two files, in one call, and Clients are those whom a listener serves.
 --
 -- What private functions alone cite lies in `inside`.
 pub mod Setup
@@ -15,7 +18,6 @@ pub mod Action
 pub mod Script
 pub mod Left
 pub mod Next
-pub mod Files
 pub mod Status
 pub mod Help
 pub mod Complaints
@@ -23,7 +25,9 @@ pub mod Serving
 pub mod Clients
 pub mod Importing
 pub mod Again
-pub mod Words
+pub mod Tasks
+pub mod Files
 pub mod GoingOn
+pub mod Words
 pub mod Sessions
 pub mod inside

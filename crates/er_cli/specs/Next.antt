@@ -13,56 +13,52 @@ use Rattle.sqlite.specs.Files.{image_of}
 use Rattle.er_desk.specs.Desk.{Point, Placed}
 use Rattle.er_desk.specs.Run.{Session}
 use Rattle.er_desk.specs.History.{Ended}
-use Rattle.er_desk.specs.Headline.{NextBegins, WasLeftBy, and_then}
+use Rattle.er_desk.specs.Headline.{NextBegins, RecoversHistory, and_then}
 use Rattle.er_cli.specs.declared.left.Left.{Left}
 use Rattle.er_cli.specs.declared.left.Left.TheVariants as left
 
 -- in these two files, with the log and without it, the next command line finds the history with this session behind it
 pub record FindsNext (new : Point) (ends : List Ended) (session : Session) (last : Placed) (image : Image) : Type 0 where
-  pub both : WasLeftBy image new (and_then ends session last.point) last
-  pub alone : WasLeftBy (record image { log = [] }) new (and_then ends session last.point) last
+  pub both : RecoversHistory image new (and_then ends session last.point) last
+  pub alone : RecoversHistory (record image { log = [] }) new (and_then ends session last.point) last
 
 -- as the two read now, and as a crash may leave them
-pub record IsLeftNext {D : Type 0} (d : disk.Ghosts D) (new : Point) (ends : List Ended) (session : Session) (last : Placed)
+pub record RecoversNext {D : Type 0} (d : disk.Ghosts D) (new : Point) (ends : List Ended) (session : Session) (last : Placed)
     (files : Files D) : Type 0 where
   pub seen : FindsNext new ends session last (image_of d files)
   pub left : (image : Image) → outcomes d files.log files.db image → FindsNext new ends session last image
 
--- one of these versions, in which the next session begins
-abbrev pub BeginsIn : (ℕ → Type 0) → Point → List Ended → Session → Trees → Type 0
-BeginsIn In new ends session trees = (version : ℕ) × In version × NextBegins new ends session version trees
-
--- or the files were left so
-abbrev pub WasLeftIn : (ℕ → Type 0) → Point → List Ended → Session → Image → Type 0
-WasLeftIn In new ends session image =
-    (last : Placed) × In last.version × WasLeftBy image new (and_then ends session last.point) last
+-- the files were left so, in tables of one of these versions
+abbrev pub RecoversIn : (ℕ → Type 0) → Point → List Ended → Session → Image → Type 0
+RecoversIn In new ends session image =
+    (last : Placed) × In last.version × RecoversHistory image new (and_then ends session last.point) last
 
 -- The files of a store that was not closed. Each thing that an opening after a crash may find there is an end of the history with this
 -- session, and the next one begins there. The same of the bytes that a crash may leave, where the store still lists its tables by number.
 pub record KeepsNext {D : Type 0} (d : disk.Ghosts D) (In : ℕ → Type 0) (new : Point) (ends : List Ended) (session : Session)
     (store : FileStore D d) : Type 0 where
-  pub begins : (trees : Trees) → recovers store trees → BeginsIn In new ends session trees
+  pub begins : (trees : Trees) → recovers store trees → (version : ℕ) × In version × NextBegins new ends session version trees
   pub left : IsTrue (view store).is_numbered → (image : Image) → outcomes d (store_files store).0 (store_files store).1 image
-      → ∥ WasLeftIn In new ends session image ∥₁
+      → ∥ RecoversIn In new ends session image ∥₁
 
 -- What is left of a file in which a session was asked: on a clean disk the next command line finds the history with the session behind it,
 -- in tables of one of these versions.
-abbrev pub IsLeftBy : {D : Type 0} (d : disk.Ghosts D) → (ℕ → Type 0) → Point → List Ended → Session → Left D d → Type 0
-IsLeftBy d In new ends session left.Nothing = Unit {0}
-IsLeftBy d In new ends session (left.Closed files) =
-    AreClean d files.log files.db → (last : Placed) × In last.version × IsLeftNext d new ends session last files
-IsLeftBy d In new ends session (left.Unclosed store) = IsClean (view store) → KeepsNext d In new ends session store
-IsLeftBy d In new ends session (left.Unopened rest) = Unit {0}
+abbrev pub RecoversSession : {D : Type 0} (d : disk.Ghosts D) → (ℕ → Type 0) → Point → List Ended → Session → Left D d → Type 0
+RecoversSession d In new ends session left.Nothing = Unit {0}
+RecoversSession d In new ends session (left.Closed files) =
+    AreClean d files.log files.db → (last : Placed) × In last.version × RecoversNext d new ends session last files
+RecoversSession d In new ends session (left.Unclosed store) = IsClean (view store) → KeepsNext d In new ends session store
+RecoversSession d In new ends session (left.Unopened rest) = Unit {0}
 
 -- a file was opened and put away, closed or not
-abbrev pub WasPutAway : {D : Type 0} {d : disk.Ghosts D} → Left D d → Type 0
-WasPutAway left.Nothing = ⊥
-WasPutAway (left.Closed files) = Unit {0}
-WasPutAway (left.Unclosed store) = Unit {0}
-WasPutAway (left.Unopened rest) = ⊥
+abbrev pub WasOpened : {D : Type 0} {d : disk.Ghosts D} → Left D d → Type 0
+WasOpened left.Nothing = ⊥
+WasOpened (left.Closed files) = Unit {0}
+WasOpened (left.Unclosed store) = Unit {0}
+WasOpened (left.Unopened rest) = ⊥
 
 -- The file was opened, its desk was asked this session, and it was put away.
 pub record GoesTo {D : Type 0} (d : disk.Ghosts D) (In : ℕ → Type 0) (new : Point) (ends : List Ended) (session : Session) (what : Left D d)
     : Type 0 where
-  pub put_away : WasPutAway what
-  pub leaves : IsLeftBy d In new ends session what
+  pub put_away : WasOpened what
+  pub leaves : RecoversSession d In new ends session what

@@ -13,13 +13,13 @@ use Rattle.sqlite.specs.Tree.{Trees}
 use Rattle.sqlite.specs.State.{State, HasCleanDisk}
 use Rattle.sqlite.specs.Files.{FailsToOpenFiles, HoldsDatabase, IsCleanLeft, LeavesFiles, image_of, over_files}
 use Rattle.sqlite_wal.specs.Reads.{AreClean}
-use Rattle.er_desk.specs.Headline.{WasLeftBy, and_then}
+use Rattle.er_desk.specs.Headline.{RecoversHistory, and_then}
 use Rattle.er_event.specs.declared.refusals.Refusal.{Refusal}
 use Rattle.er_event.specs.declared.refusals.Refusal.TheVariants.{Memory}
 use Rattle.er_store.specs.Fault.{IsFault}
 use Rattle.er_desk.specs.declared.desk.Desk.{Desk}
-use Rattle.er_desk.specs.Asking.{Asks, joined}
-use Rattle.er_desk.specs.Desk.{Point, Placed, DeskState, ShowsOwn, running_at, desk_state, state}
+use Rattle.er_desk.specs.Asking.{Asks, join_sessions}
+use Rattle.er_desk.specs.Desk.{Point, Placed, DeskState, HoldsOwnEvent, running_at, desk_state, state}
 use Rattle.er_desk.specs.Run.{Session, no_session}
 use Rattle.er_desk.specs.History.{Ended}
 use Rattle.er_answers.specs.Answers.{AnswersDesk, AsksFor, session_at}
@@ -27,8 +27,8 @@ use Rattle.er_answers.specs.declared.question.Question.{Question}
 use Rattle.er_answers.specs.declared.question.Question.TheVariants.{Migrate}
 use Rattle.er_answers.specs.declared.question.Told.{Told}
 use Rattle.er_cli.specs.GoingOn.{LeadsToVersion, MayMoveTables}
-use Rattle.er_cli.specs.Left.{IfClean, IfUnopened, IsPutAway}
-use Rattle.er_cli.specs.Next.{IsLeftBy, WasLeftIn, WasPutAway}
+use Rattle.er_cli.specs.Left.{IfUnopened, ClosesFile, WasOpenedClean}
+use Rattle.er_cli.specs.Next.{RecoversSession, RecoversIn, WasOpened}
 use Rattle.er_cli.specs.declared.left.Left.{Left}
 
 -- Files that were closed, or cut off. Each pair of bytes that a crash may leave holds a database that it could leave before.
@@ -38,21 +38,22 @@ pub record AreCut {D : Type 0} (d : disk.Ghosts D) (s : State) (files : Files D)
 
 module _ {D : Type 0} {d : disk.Ghosts D} where
   -- the next session may open them, or they could not be closed
-  abbrev pub IsLeftOver : State → Result (Files D) (Left D d) → Type 0
-  IsLeftOver s (Ok files) = AreClean d files.log files.db → AreCut d s files
-  IsLeftOver s (Err what) = IsPutAway s what
+  abbrev pub IsClosedOrKept : State → Result (Files D) (Left D d) → Type 0
+  IsClosedOrKept s (Ok files) = AreClean d files.log files.db → AreCut d s files
+  IsClosedOrKept s (Err what) = ClosesFile s what
 
   -- where a file was opened, and its disk is clean
   abbrev pub IfCleanFiles : Type 0 → Result (Files D) (Left D d) → Type 0
   IfCleanFiles Is (Ok files) = AreClean d files.log files.db → Is
-  IfCleanFiles Is (Err what) = IfClean Is what
+  IfCleanFiles Is (Err what) = WasOpenedClean what → Is
 
 -- On a clean disk each pair of bytes that a crash may leave was left by the history with this session behind it, in one of these versions.
-abbrev pub IsLeftByNext : {D : Type 0} (d : disk.Ghosts D) → (ℕ → Type 0) → Point → List Ended → Session → Result (Files D) (Left D d)
+abbrev pub RecoversAfterSession : {D : Type 0} (d : disk.Ghosts D) → (ℕ → Type 0) → Point → List Ended → Session
+    → Result (Files D) (Left D d)
     → Type 0
-IsLeftByNext d In new ends session (Ok files) =
-    AreClean d files.log files.db → (image : Image) → outcomes d files.log files.db image → ∥ WasLeftIn In new ends session image ∥₁
-IsLeftByNext d In new ends session (Err what) = IsLeftBy d In new ends session what
+RecoversAfterSession d In new ends session (Ok files) =
+    AreClean d files.log files.db → (image : Image) → outcomes d files.log files.db image → ∥ RecoversIn In new ends session image ∥₁
+RecoversAfterSession d In new ends session (Err what) = RecoversSession d In new ends session what
 
 -- of files that were not opened: why, and what is left of them, as the storage crate has it
 abbrev pub SparesFiles : {D : Type 0} {d : disk.Ghosts D} → Files D → Error → Option (Leftover D d) → Type 0
@@ -71,7 +72,7 @@ abbrev pub AsksAll : {S : Type 0} (g : Ghosts S) → Desk S g → List Question 
 AsksAll g old [] [] new = new ≡ old
 AsksAll {S} g old (question ∷ questions) (told ∷ answers) new =
     (mid : Desk S g) × AsksFor g old question told mid
-    × AnswersDesk (HasCleanDisk (state g mid) × ShowsOwn g old) (desk_state old) question told (desk_state mid)
+    × AnswersDesk (HasCleanDisk (state g mid) × HoldsOwnEvent g old) (desk_state old) question told (desk_state mid)
     × AsksAll g mid questions answers new
 AsksAll g old [] (told ∷ answers) new = ⊥
 AsksAll g old (question ∷ questions) [] new = ⊥
@@ -82,7 +83,7 @@ abbrev pub AnswersAll : DeskState → List Question → List Told → Session �
 AnswersAll old [] [] session new = (session ≡ no_session) × (new ≡ old)
 AnswersAll old (question ∷ questions) (told ∷ answers) session new =
     (mid : DeskState) × (later : Session) × AnswersDesk (Unit {0}) old question told mid × AnswersAll mid questions answers later new
-    × (session ≡ joined (session_at question told mid.needs_reopen) later)
+    × (session ≡ join_sessions (session_at question told mid.needs_reopen) later)
 AnswersAll old [] (told ∷ answers) session new = ⊥
 AnswersAll old (question ∷ questions) [] session new = ⊥
 
@@ -95,9 +96,9 @@ LeadToVersion [] (told ∷ answers) was now = ⊥
 LeadToVersion (question ∷ questions) [] was now = ⊥
 
 -- where nothing was asked, the version stays
-abbrev pub VersionLeft : List Question → Result (Vec Told Global) Refusal → (was now : ℕ) → Type 0
-VersionLeft questions (Ok answers) was now = LeadToVersion questions answers.items was now
-VersionLeft questions (Err why) was now = now ≡ was
+abbrev pub VersionAfter : List Question → Result (Vec Told Global) Refusal → (was now : ℕ) → Type 0
+VersionAfter questions (Ok answers) was now = LeadToVersion questions answers.items was now
+VersionAfter questions (Err why) was now = now ≡ was
 
 -- ---- one session
 
@@ -105,7 +106,7 @@ VersionLeft questions (Err why) was now = now ≡ was
 pub record AsksOver {D : Type 0} {d : disk.Ghosts D} (desk : Desk (FileStore D d) over_files) (questions : List Question)
     (answers : Result (Vec Told Global) Refusal) (files : Result (Files D) (Left D d)) : Type 0 where
   pub last : Desk (FileStore D d) over_files
-  pub let_go : IsLeftOver (state over_files last) files
+  pub let_go : IsClosedOrKept (state over_files last) files
   pub rests : Asks over_files last no_session last
   pub asked : MatchResult answers (λ them. AsksAll over_files desk questions them.items last) (λ why. (why ≡ Memory) × (last ≡ desk))
 
@@ -120,10 +121,10 @@ pub record HoldsNext {D : Type 0} (d : disk.Ghosts D) (new : Point) (ends : List
     (questions : List Question) (answers : Result (Vec Told Global) Refusal) (now : Result (Files D) (Left D d)) : Type 0 where
   pub session : Session
   pub held : IfCleanFiles (IsHeld first questions answers session) now
-  pub leaves : IsLeftByNext d (VersionLeft questions answers first.version) new ends session now
+  pub leaves : RecoversAfterSession d (VersionAfter questions answers first.version) new ends session now
   -- of files that can't be opened nothing was asked
   pub unopened : MatchResult now (λ _. Unit {0})
-      (λ what. MatchResult answers (λ _. WasPutAway what) (λ why. IfUnopened (SparesFiles files) why what))
+      (λ what. MatchResult answers (λ _. WasOpened what) (λ why. IfUnopened (SparesFiles files) why what))
 
 -- where a migration is among the requests, the file's tables may be migrated
 abbrev pub MayMoveFor : Image → Placed → List Question → Type 0
@@ -139,7 +140,7 @@ HoldsThen new Then ends first image [] [] = Then ends first image
 HoldsThen new Then ends first image (questions ∷ later) (answers ∷ more) =
     MayMoveFor image first questions.items
     → ∥ ((session : Session) × (last : Placed) × (left : Image) × IsHeld first questions.items answers session
-    × VersionLeft questions.items answers first.version last.version × WasLeftBy left new (and_then ends session last.point) last
+    × VersionAfter questions.items answers first.version last.version × RecoversHistory left new (and_then ends session last.point) last
     × HoldsThen new Then (and_then ends session last.point) last left later more) ∥₁
 HoldsThen new Then ends first image [] (answers ∷ more) = ⊥
 HoldsThen new Then ends first image (questions ∷ later) [] = ⊥
@@ -162,8 +163,8 @@ pub record HoldsSome {D : Type 0} (d : disk.Ghosts D) (new : Point) (ends : List
   pub were : answers ≡ before ++ answered ∷ []
   pub files : Files D
   pub held : HoldsEach d new ends first image done before files
-  pub clean : IfClean (AreClean d files.log files.db) what
-  pub goes_on : (so_far : List Ended) (mid : Placed) → WasLeftBy (image_of d files) new so_far mid
+  pub clean : WasOpenedClean what → AreClean d files.log files.db
+  pub goes_on : (so_far : List Ended) (mid : Placed) → RecoversHistory (image_of d files) new so_far mid
       → MayMoveFor (image_of d files) mid questions.items → HoldsNext d new so_far mid files questions.items answered (Err what)
 
 -- all of them were held, or some

@@ -3,3 +3,7 @@ pub mod Input
 pub mod Unread
 pub mod Desk
 pub mod Closing
+pub mod Making
+pub mod Complaints
+pub mod Serving
+pub mod Importing

@@ -5,7 +5,7 @@ ghost use Rattle.sqlite_store.specs.FileStore.{state as store_state};
 ghost use Rattle.sqlite.specs.Files.{file_state, over_files, IsClosed};
 ghost use Rattle.er_desk.specs.Desk.{state};
 ghost use Rattle.er_desk.specs.Opening.{why_of};
-ghost use Rattle.er_cli.specs.Left.{IsClearedOf, IsPutAway};
+ghost use Rattle.er_cli.specs.Left.{IsClearedOf, ClosesFile};
 ghost use Rattle.er_cli.specs.inside.Closing.{CopiesLog};
 
 use crate::left::{Left, NoDesk};
@@ -56,7 +56,7 @@ fn lengthen<D: Disk>(log: &mut D)
 
 /// Closes a connection to a file: copies the log into the database file. Where that fails, the log keeps what it has.
 pub fn close<D: Disk + Drop>(conn: Connection<FileStore<D>>) -> Left<D>
-    ensures { IsPutAway (file_state conn) result }
+    ensures { ClosesFile (file_state conn) result }
 {
     match copy_log(conn) {
         Ok(store) => {
@@ -70,14 +70,14 @@ pub fn close<D: Disk + Drop>(conn: Connection<FileStore<D>>) -> Left<D>
 
 /// Takes the files of a connection as they are, and writes nothing.
 pub fn take<D: Disk + Drop>(conn: Connection<FileStore<D>>) -> Left<D>
-    ensures { IsPutAway (file_state conn) result }
+    ensures { ClosesFile (file_state conn) result }
 {
     Left::Unclosed(conn.into_store())
 }
 
 /// Closes the desk of a file at the end of a run, and gives back what is left of the file.
 pub fn put_away<D: Disk + Drop>(desk: Desk<FileStore<D>>) -> Left<D>
-    ensures { IsPutAway (state over_files desk) result }
+    ensures { ClosesFile (state over_files desk) result }
 {
     let conn = desk.close();
     close(conn)
@@ -142,7 +142,7 @@ fn clear_refused<D: Disk + Drop>(
     conn: Connection<FileStore<D>>,
     log: Option<&NewLog>,
 ) -> Left<D>
-    ensures { IsPutAway (file_state conn) result }
+    ensures { ClosesFile (file_state conn) result }
 {
     let Some(log) = log else {
         return take(conn);

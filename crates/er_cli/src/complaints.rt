@@ -1,5 +1,6 @@
 ghost use Rattle.std.specs.Prelude.{◌≡◌, IfOk, Some, map, string_bytes};
-ghost use Rattle.er_cli.specs.Complaints.{Complains, advice, complaint_with, place_of, what_is_wrong};
+ghost use Rattle.er_cli.specs.Complaints.{Complains, place_of, what_is_wrong};
+ghost use Rattle.er_cli.specs.inside.Complaints.{advice, complaint_with};
 ghost use Rattle.er_words.specs.Usage.{fault_of};
 
 use crate::help::subcommand_text;

@@ -9,14 +9,17 @@ ghost use Rattle.er_desk.specs.Desk.{desk_state, state};
 ghost use Rattle.er_desk.specs.Run.{no_session};
 ghost use Rattle.er_desk.specs.History.{new_point};
 ghost use Rattle.er_desk.specs.Opening.{IsSpared};
-ghost use Rattle.er_cli.specs.GoingOn.{GoesOnAction, GoesOnTask};
 ghost use Rattle.er_desk.specs.Reply.{receipt};
-ghost use Rattle.er_cli.specs.declared.action.Action.TheVariants.{Open};
+ghost use Rattle.er_cli.specs.declared.action.Action.TheVariants.{Init, Open};
 ghost use Rattle.er_cli.specs.Action.{action_of};
 ghost use Rattle.er_store.specs.Fault.{IsFault};
-ghost use Rattle.er_cli.specs.Left.{IsPutAway};
-ghost use Rattle.er_cli.specs.Files.{Does, EndsLine, InitReplies, HasMadeEvent, HasMadeNone, IsOpened, MakesEvent, OpensFor, ServesClients};
-ghost use Rattle.er_cli.specs.Help.{Tells, printed};
+ghost use Rattle.er_cli.specs.Left.{ClosesFile};
+ghost use Rattle.er_desk.specs.Files.{HasMade};
+ghost use Rattle.er_cli.specs.Files.{HasMadeNone};
+ghost use Rattle.er_cli.specs.Serving.{ServesClients};
+ghost use Rattle.er_cli.specs.Words.{Does, EndsLine, GoesOnAction, GoesOnTask};
+ghost use Rattle.er_cli.specs.inside.Making.{InitReplies};
+ghost use Rattle.er_cli.specs.Help.{Tells, prints};
 
 use crate::action::{Action, Task, file_and_action};
 use crate::closing::{clear_fault, log_to_make, put_away};
@@ -61,7 +64,7 @@ fn create<S: Start>(
     start: S,
 ) -> Result<Desk<FileStore<FileFrom<S>>>, NoDesk<FileFrom<S>>>
     requires limits { AreLimits rounds cut }
-    ensures { MatchResult result (HasMadeEvent (image_at S.Start) (new_point name rounds cut))
+    ensures { MatchResult result (HasMade (image_at S.Start) name rounds cut)
         (λ it. HasMadeNone IsSpared (image_at S.Start) (new_point name rounds cut) it.why it.left) }
 {
     let log = log_to_make(rt, path);
@@ -97,9 +100,10 @@ fn print_made<D: Disk + Drop, O: Write, E: Write>(
     out: &mut O,
     err: &mut E,
 ) -> Ran<D>
-    ensures put_away { IsPutAway (state over_files desk) result.left }
+    ensures put_away { ClosesFile (state over_files desk) result.left }
     ensures asks { Asks over_files desk no_session desk }
-    ensures told { Tells (Told.Accepted (receipt 0)) (printed (O.contents out.old) (O.contents out.new)
+    ensures told { Tells (Told.Accepted (receipt 0))
+        (prints (O.contents out.old) (O.contents out.new)
         (E.contents err.old) (E.contents err.new) result.status) }
 {
     // A desk that is only looked at asks nothing of its file: this tells the proof.
@@ -122,9 +126,9 @@ fn make<S: Start, O: Write, E: Write>(
     out: &mut O,
     err: &mut E,
 ) -> Ran<FileFrom<S>>
-    ensures { MakesEvent ⟦<FileFrom<S> as Disk>⟧ IsSpared (image_at S.Start) result.left
-        (printed (O.contents out.old) (O.contents out.new)
-        (E.contents err.old) (E.contents err.new) result.status) name.now rounds cut }
+    ensures { EndsLine ⟦<FileFrom<S> as Disk>⟧ IsSpared (image_at S.Start) result.left
+        (prints (O.contents out.old) (O.contents out.new)
+        (E.contents err.old) (E.contents err.new) result.status) (Init name.now rounds cut) }
 {
     // What is begun here is the history that the next command line goes on with: this tells the proof.
     next_sessions();
@@ -143,7 +147,8 @@ fn listen<S: Alter, O: Write, E: Write>(
     out: &mut O,
     err: &mut E,
 ) -> u8
-    ensures { AsksSome S.Store desk.old (ServesClients (printed (O.contents out.old) (O.contents out.new)
+    ensures { AsksSome S.Store desk.old
+        (ServesClients (prints (O.contents out.old) (O.contents out.new)
         (E.contents err.old) (E.contents err.new) result) count) desk.new }
 {
     // Where nobody is listened to, nothing is asked of the file: this tells the proof.
@@ -168,7 +173,7 @@ fn do_task<S: Alter, O: Write, E: Write>(
     requires sound { IsSound desk.old.event }
     requires low { desk.old.serial ≤ MAX_SERIAL }
     requires ready { IsFalse (desk_state desk.old).needs_reopen }
-    ensures { Does S.Store desk.old task desk.new (printed (O.contents out.old) (O.contents out.new)
+    ensures { Does S.Store desk.old task desk.new (prints (O.contents out.old) (O.contents out.new)
         (E.contents err.old) (E.contents err.new) result) }
 {
     match task {
@@ -186,9 +191,12 @@ fn do_and_close<D: Disk + Drop, O: Write, E: Write>(
     out: &mut O,
     err: &mut E,
 ) -> Ran<D>
-    requires opened { IsOpened over_files desk }
-    ensures { OpensFor result.left (printed (O.contents out.old) (O.contents out.new)
-        (E.contents err.old) (E.contents err.new) result.status) task desk }
+    requires sound { IsSound desk.event }
+    requires low { desk.serial ≤ MAX_SERIAL }
+    requires ready { IsFalse (desk_state desk).needs_reopen }
+    ensures { (last : _) × Does over_files desk task last (prints (O.contents out.old)
+        (O.contents out.new) (E.contents err.old) (E.contents err.new) result.status)
+        × ClosesFile (state over_files last) result.left }
 {
     let status = do_task(rt, &mut desk, task, out, err);
     Ran {
@@ -199,7 +207,7 @@ fn do_and_close<D: Disk + Drop, O: Write, E: Write>(
 
 /// Tells why a file was not opened.
 fn tell_refusal<O: Write, E: Write>(out: &mut O, err: &mut E, why: Refusal) -> u8
-    ensures { Tells (Told.Refused why) (printed (O.contents out.old) (O.contents out.new)
+    ensures { Tells (Told.Refused why) (prints (O.contents out.old) (O.contents out.new)
         (E.contents err.old) (E.contents err.new) result) }
 {
     print(out, err, &Told::Refused(why))
@@ -212,7 +220,7 @@ fn tell_no_desk<D: Disk + Drop, O: Write, E: Write>(
     none: NoDesk<D>,
 ) -> Ran<D>
     ensures left { result.left ≡ none.left }
-    ensures told { Tells (Told.Refused none.why) (printed (O.contents out.old) (O.contents out.new)
+    ensures told { Tells (Told.Refused none.why) (prints (O.contents out.old) (O.contents out.new)
         (E.contents err.old) (E.contents err.new) result.status) }
 {
     Ran {
@@ -228,7 +236,7 @@ fn tell_unopened<D: Disk + Drop, O: Write, E: Write>(
     why: Refusal,
 ) -> Ran<D>
     ensures left { result.left ≡ Left.Nothing }
-    ensures told { Tells (Told.Refused why) (printed (O.contents out.old) (O.contents out.new)
+    ensures told { Tells (Told.Refused why) (prints (O.contents out.old) (O.contents out.new)
         (E.contents err.old) (E.contents err.new) result.status) }
 {
     Ran {
@@ -247,11 +255,11 @@ fn open<S: Start, O: Write, E: Write>(
     err: &mut E,
 ) -> Ran<FileFrom<S>>
     ensures ends { EndsLine ⟦<FileFrom<S> as Disk>⟧ IsSpared (image_at S.Start) result.left
-        (printed (O.contents out.old) (O.contents out.new)
+        (prints (O.contents out.old) (O.contents out.new)
         (E.contents err.old) (E.contents err.new) result.status) (Open task) }
     // Of a file that a history left, the history goes on with what the desk is asked.
-    ensures goes_on { GoesOnTask ⟦<FileFrom<S> as Disk>⟧ IsSpared (image_at S.Start) task result.left
-        (printed (O.contents out.old) (O.contents out.new) (E.contents err.old)
+    ensures goes_on { GoesOnTask ⟦<FileFrom<S> as Disk>⟧ IsSpared (image_at S.Start) task
+        result.left (prints (O.contents out.old) (O.contents out.new) (E.contents err.old)
         (E.contents err.new) result.status) }
 {
     // What a session leaves is an end of the history with that session: this tells the proof.
@@ -272,11 +280,11 @@ pub fn run_line<S: Start, O: Write, E: Write>(
     err: &mut E,
 ) -> Ran<FileFrom<S>>
     ensures ends { EndsLine ⟦<FileFrom<S> as Disk>⟧ IsSpared (image_at S.Start) result.left
-        (printed (O.contents out.old) (O.contents out.new)
+        (prints (O.contents out.old) (O.contents out.new)
         (E.contents err.old) (E.contents err.new) result.status) (action_of line) }
     // Of a file that a history left, the history goes on with what the desk is asked, or the system says that it isn't there.
     ensures goes_on { GoesOnAction ⟦<FileFrom<S> as Disk>⟧ IsSpared (image_at S.Start) (action_of line)
-        result.left (printed (O.contents out.old) (O.contents out.new) (E.contents err.old)
+        result.left (prints (O.contents out.old) (O.contents out.new) (E.contents err.old)
         (E.contents err.new) result.status) }
 {
     let (file, action) = file_and_action(line);

@@ -1,6 +1,6 @@
-ghost use Rattle.std.specs.Prelude.{◌≡◌, OnOk, OnErr, map, option_map, string_bytes};
+ghost use Rattle.std.specs.Prelude.{◌≡◌, [], ◌∷◌, OnOk, OnErr, map, option_map, string_bytes};
 ghost use Rattle.std.specs.Io.KnownBytes.{Appends};
-ghost use Rattle.er_cli.specs.Help.{option_text, subcommand_text, text_behind, text_for};
+ghost use Rattle.er_cli.specs.Help.{option_text, subcommand_text, text_for};
 ghost use Rattle.er_cli.specs.Texts.{AppendsPart};
 
 use crate::texts::{WriteFault, flush, send};
@@ -417,7 +417,7 @@ pub fn print_text<W: Write>(writer: &mut W, text: &str) -> Result<(), WriteFault
 
 /// The text that an option asks for.
 fn option_text(word: &str) -> Option<&'static str>
-    ensures { option_map (λ text. text.now) result ≡ option_text word.now }
+    ensures { option_map (λ text. text.now) result ≡ option_text HELP.now word.now }
 {
     match word {
         "--help" | "-h" => Some(HELP),
@@ -428,7 +428,7 @@ fn option_text(word: &str) -> Option<&'static str>
 
 /// The text that an option behind a subcommand asks for.
 fn text_behind(name: &str, word: &str) -> Option<&'static str>
-    ensures { option_map (λ text. text.now) result ≡ text_behind name.now word.now }
+    ensures { option_map (λ text. text.now) result ≡ text_for (name.now ∷ word.now ∷ []) }
 {
     let text = subcommand_text(name)?;
     match word {

@@ -1,10 +1,11 @@
 ghost use Rattle.std.specs.Prelude.{◌≡◌, ◌≤◌, [], ◌∷◌, IsFalse, IfOk, vec_len};
 ghost use Rattle.er_event.specs.declared.commands.Command.TheVariants.{Enrol};
 ghost use Rattle.er_desk.specs.Asking.{Asks, AsksSome};
-ghost use Rattle.er_desk.specs.Desk.{Turn, desk_state};
+ghost use Rattle.er_desk.specs.Desk.{Outcome, desk_state};
 ghost use Rattle.er_desk.specs.Run.{session_of};
-ghost use Rattle.er_cli.specs.Importing.{Enrols, Imports, ImportsList, PrintsAdditions, fault_text, is_taken, names_of, additions_text};
-ghost use Rattle.er_cli.specs.Help.{PutsText, printed, stream};
+ghost use Rattle.er_cli.specs.Importing.{Enrols, Imports, PrintsAdditions, fault_text, is_taken};
+ghost use Rattle.er_cli.specs.inside.Importing.{ImportsList, additions_text, names_of};
+ghost use Rattle.er_cli.specs.Help.{PutsText, prints, stream};
 
 use crate::input::{InputFault, read_whole};
 use crate::texts::{WriteFault, print_line};
@@ -94,7 +95,7 @@ fn is_taken(why: &Refusal) -> bool
 /// Hands one name to the desk.
 fn enrol<S: Alter>(alloc: Global, desk: &mut Desk<S>, name: &Name) -> Reply
     requires { IsFalse (desk_state desk.old).needs_reopen }
-    ensures turn { Turn (desk_state desk.old) (Enrol name.now) result (desk_state desk.new) }
+    ensures turn { Outcome (desk_state desk.old) (Enrol name.now) result (desk_state desk.new) }
     ensures asked { Asks S.Store desk.old
         (session_of (Enrol name.now ∷ []) (result ∷ []) (desk_state desk.new).needs_reopen) desk.new }
 {
@@ -141,7 +142,8 @@ fn enrol_all<S: Alter>(alloc: Global, desk: &mut Desk<S>, lines: &[PlayerLine]) 
 
 /// Prints how many were enrolled, and the refusal that ended it, where there is one.
 fn print_additions<O: Write, E: Write>(out: &mut O, err: &mut E, enrolled: Enrolled) -> u8
-    ensures { PrintsAdditions enrolled.additions enrolled.stop (printed (O.contents out.old) (O.contents out.new)
+    ensures { PrintsAdditions enrolled.additions enrolled.stop
+        (prints (O.contents out.old) (O.contents out.new)
         (E.contents err.old) (E.contents err.new) result) }
 {
     let Ok(()) = print_line(out, &additions_line(enrolled.additions)) else {
@@ -162,7 +164,8 @@ fn import_list<S: Alter, O: Write, E: Write>(
     err: &mut E,
 ) -> u8
     requires { IsFalse (desk_state desk.old).needs_reopen }
-    ensures { AsksSome S.Store desk.old (ImportsList (printed (O.contents out.old) (O.contents out.new)
+    ensures { AsksSome S.Store desk.old
+        (ImportsList (prints (O.contents out.old) (O.contents out.new)
         (E.contents err.old) (E.contents err.new) result) list.now) desk.new }
 {
     // Where nobody is enrolled, nothing is asked of the file: this tells the proof.
@@ -186,7 +189,7 @@ pub fn import<S: Alter, O: Write, E: Write>(
     err: &mut E,
 ) -> u8
     requires { IsFalse (desk_state desk.old).needs_reopen }
-    ensures { AsksSome S.Store desk.old (Imports (printed (O.contents out.old) (O.contents out.new)
+    ensures { AsksSome S.Store desk.old (Imports (prints (O.contents out.old) (O.contents out.new)
         (E.contents err.old) (E.contents err.new) result)) desk.new }
 {
     // Where nobody is enrolled, nothing is asked of the file: this tells the proof.

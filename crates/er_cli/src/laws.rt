@@ -1,13 +1,22 @@
 //! Laws of command lines, over the definitions alone. A law is a function with no code of its own, whose contract is the law.
 
+ghost use Rattle.std.specs.Prelude.{◌≡◌, ℕ, List, IsTrue, None, is_some};
+ghost use Rattle.er_words.specs.Line.{line_of};
 ghost use Rattle.er_cli.specs.Again.{ImportsAgain};
+ghost use Rattle.er_cli.specs.Help.{asks_text, text_for};
 
 use er_rules::laws::names_stay;
 
-/// A list that was imported adds nobody when it is imported once more. One whose import was stopped anywhere and is imported again gives the
-/// event of one import.
+/// A list that was imported adds nobody when it is imported once more. One whose import was stopped anywhere and is imported again gives
+/// the event of one import.
 pub fn imports_again()
     ensures { ImportsAgain }
 {
     names_stay();
 }
+
+/// Words ask for a text exactly where there is one for them, and no such words are a line.
+pub fn texts_are_asked()
+    ensures exactly { (words : List (List ℕ)) → asks_text words ≡ is_some (text_for words) }
+    ensures no_line { (words : List (List ℕ)) → IsTrue (asks_text words) → line_of words ≡ None }
+{}

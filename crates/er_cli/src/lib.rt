@@ -6,11 +6,10 @@ ghost use Rattle.std.specs.Io.KnownBytes.{Appends};
 ghost use Rattle.er_cli.specs.Texts.{told_text, AppendsPart};
 ghost use Rattle.sqlite_wal.specs.Files.{image_at};
 ghost use Rattle.er_desk.specs.Opening.{IsSpared};
-ghost use Rattle.er_cli.specs.GoingOn.{GoesOnWords};
 ghost use Rattle.er_cli.specs.Complaints.{EndsAsUsage};
-ghost use Rattle.er_cli.specs.Words.{EndsWords};
+ghost use Rattle.er_cli.specs.Words.{EndsWords, GoesOnWords};
 ghost use Rattle.er_cli.specs.declared.help.TheConstants.{AWAITING};
-ghost use Rattle.er_cli.specs.Help.{PutsText, Tells, printed, refusal_status, stream, text_for};
+ghost use Rattle.er_cli.specs.Help.{PutsText, Tells, prints, refusal_status, stream, text_for};
 ghost use Rattle.er_words.specs.Usage.{fault_of};
 ghost use Rattle.er_cli.specs.Status.{EndsScript, Breaks};
 ghost use Rattle.er_cli.specs.inside.Unread.{EndsUnread, UnreadPart};
@@ -139,7 +138,7 @@ fn print_flushed<W: Write>(writer: &mut W, told: &Told) -> Result<(), WriteFault
 
 /// Prints what the desk has answered to the stream that it goes to: a refusal to the errors. Gives the status that comes with it.
 fn print<O: Write, E: Write>(out: &mut O, err: &mut E, told: &Told) -> u8
-    ensures { Tells told.now (printed (O.contents out.old) (O.contents out.new)
+    ensures { Tells told.now (prints (O.contents out.old) (O.contents out.new)
         (E.contents err.old) (E.contents err.new) result) }
 {
     let (printed, status) = match told {
@@ -171,7 +170,7 @@ fn print_usage<O: Write, E: Write>(
     err: &mut E,
 ) -> u8
     ensures { fault_of (map string_bytes words.now) ≡ Some fault
-        → EndsAsUsage (map string_bytes words.now) (printed (O.contents out.old) (O.contents out.new)
+        → EndsAsUsage (map string_bytes words.now) (prints (O.contents out.old) (O.contents out.new)
         (E.contents err.old) (E.contents err.new) result) }
 {
     match complaint(alloc, words, fault) {
@@ -184,7 +183,7 @@ fn print_usage<O: Write, E: Write>(
 /// written, closed again, so that it holds the event without its log too.
 pub fn run<O: Write, E: Write>(rt: &HostRuntime, words: &[String], out: &mut O, err: &mut E) -> u8
     ensures { (what : _) × EndsWords ⟦<FileFrom<Wary> as Disk>⟧ IsSpared (image_at ⟦<Wary as Start>⟧)
-        (map string_bytes words.now) what (printed (O.contents out.old) (O.contents out.new)
+        (map string_bytes words.now) what (prints (O.contents out.old) (O.contents out.new)
         (E.contents err.old) (E.contents err.new) result) }
 {
     run_from(rt, words, Wary, out, err).status
@@ -200,14 +199,14 @@ pub fn run_from<S: Start, O: Write, E: Write>(
     err: &mut E,
 ) -> Ran<FileFrom<S>>
     ensures ends { EndsWords ⟦<FileFrom<S> as Disk>⟧ IsSpared (image_at S.Start)
-        (map string_bytes words.now) result.left (printed (O.contents out.old) (O.contents out.new)
+        (map string_bytes words.now) result.left (prints (O.contents out.old) (O.contents out.new)
         (E.contents err.old) (E.contents err.new) result.status) }
     // Of a file that a history of a new event left, the history goes on with what is asked of the desk: the one command, the names of a
     // list, the scores that clients hand in, or nothing. The answer is that of the event at its end; and in what is left of the file the
     // next command line finds it. Or the answer is one that comes before the file is opened: that it isn't there, or that memory or the
     // device is wanting. Then nothing is left.
     ensures goes_on { GoesOnWords ⟦<FileFrom<S> as Disk>⟧ IsSpared (image_at S.Start)
-        (map string_bytes words.now) result.left (printed (O.contents out.old) (O.contents out.new)
+        (map string_bytes words.now) result.left (prints (O.contents out.old) (O.contents out.new)
         (E.contents err.old) (E.contents err.new) result.status) }
 {
     if let Some(text) = text_for(words) {

@@ -1,9 +1,9 @@
 ghost use Rattle.std.specs.Prelude.{◌≡◌, false, IfOk, IfErr, OnOk, OnErr, map};
 ghost use Rattle.sqlite.specs.Steps.{over_memory};
-ghost use Rattle.er_event.specs.Change.{created};
+ghost use Rattle.er_event.specs.Change.{initial_event};
 ghost use Rattle.er_store.specs.Fault.{IsFault};
 ghost use Rattle.er_event.specs.Sound.{AreLimits};
-ghost use Rattle.er_desk.specs.Desk.{ShowsOwn, running_at, desk_state, version_in};
+ghost use Rattle.er_desk.specs.Desk.{HoldsOwnEvent, running_at, desk_state, version_in};
 ghost use Rattle.er_desk.specs.History.{new_point};
 ghost use Rattle.er_answers.specs.Question.{reply_told};
 ghost use Rattle.er_cli.specs.Action.{script_action};
@@ -34,7 +34,7 @@ fn create_desk(alloc: Global, name: Name, rounds: u8, cut: u8) -> Result<Desk<Me
     requires { AreLimits rounds cut }
     ensures made { IfOk result (λ made. desk_state made
         ≡ running_at (new_point name rounds cut) 2) }
-    ensures represents { IfOk result (ShowsOwn over_memory) }
+    ensures represents { IfOk result (HoldsOwnEvent over_memory) }
     ensures version { IfOk result (λ made. version_in made ≡ 2) }
     ensures refused { IfErr result IsFault }
 {

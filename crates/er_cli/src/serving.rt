@@ -3,7 +3,8 @@ ghost use Rattle.er_desk.specs.Asking.{AsksSome};
 ghost use Rattle.er_cli.specs.Clients.{KnewBefore, ServesKnown};
 ghost use Rattle.er_cli.specs.declared.TheConstants.{DONE};
 ghost use Rattle.er_cli.specs.Help.{stream};
-ghost use Rattle.er_cli.specs.Serving.{Connects, ConnectsAll, ConnectsUpTo, PrintsServed, PrintsSome, ServesAll, listening, served};
+ghost use Rattle.er_cli.specs.Serving.{Connects, ConnectsAll, ConnectsUpTo, PrintsServed, PrintsSome, ServesAll};
+ghost use Rattle.er_cli.specs.inside.Serving.{listening_text, served_text};
 
 use crate::clients::{AcceptFault, Clients, Listening};
 use crate::texts::{WriteFault, print_line};
@@ -17,7 +18,7 @@ use std::io::Write;
 use std::net::TcpListener;
 
 fn listening_line(port: u16) -> ShortText
-    ensures { result ≡ listening port }
+    ensures { result ≡ listening_text port }
 {
     let mut line = ShortText::new();
     line.push(b"listening ");
@@ -27,7 +28,7 @@ fn listening_line(port: u16) -> ShortText
 }
 
 fn served_line(count: u32) -> ShortText
-    ensures { result ≡ served count }
+    ensures { result ≡ served_text count }
 {
     let mut line = ShortText::new();
     line.push(b"served ");
@@ -44,7 +45,8 @@ fn serve_next<S: Alter, C: Clients>(
     clients: &mut C,
 ) -> Result<(), AcceptFault>
     ensures turns { AsksSome S.Store desk.old Connects desk.new }
-    ensures served { OnOk result (ServesKnown S.Store 1 (C.coming clients.old) (C.got clients.old)
+    ensures served { OnOk result
+        (ServesKnown S.Store 1 (C.coming clients.old) (C.got clients.old)
         desk.old (C.coming clients.new) (C.got clients.new) desk.new) }
     ensures knew { KnewBefore (C.got clients.old) (C.got clients.new) }
 {

@@ -2,10 +2,10 @@ ghost use Rattle.std.specs.Prelude.{◌≡◌, List, IsTrue, IfOk, IfErr, MatchR
 ghost use Rattle.sqlite.specs.Files.{file_state, image_of, over_files};
 ghost use Rattle.er_desk.specs.Desk.{Point, Placed, state};
 ghost use Rattle.er_desk.specs.History.{Ended};
-ghost use Rattle.er_desk.specs.Headline.{WasLeftBy};
+ghost use Rattle.er_desk.specs.Headline.{RecoversHistory};
 ghost use Rattle.sqlite_wal.specs.Files.{outcomes};
 ghost use Rattle.sqlite_wal.specs.Reads.{AreClean};
-ghost use Rattle.er_cli.specs.Sessions.{AreCut, AsksAll, AsksOver, HoldsAll, HoldsNext, IfCleanFiles, IsLeftOver, MayMoveFor};
+ghost use Rattle.er_cli.specs.Sessions.{AreCut, AsksAll, AsksOver, HoldsAll, HoldsNext, IfCleanFiles, IsClosedOrKept, MayMoveFor};
 
 use crate::closing::close;
 use crate::left::Left;
@@ -37,7 +37,7 @@ fn cut<D: Disk + Drop>(conn: Connection<FileStore<D>>) -> Files<D>
 
 /// Closes the files of a desk, or cuts it off where a fault of the store is behind.
 fn let_go<D: Disk + Drop>(desk: Desk<FileStore<D>>) -> Result<Files<D>, Left<D>>
-    ensures { IsLeftOver (state over_files desk) result }
+    ensures { IsClosedOrKept (state over_files desk) result }
 {
     let is_over = desk.needs_reopen();
     let conn = desk.close();
@@ -105,7 +105,7 @@ pub fn next_session<D: Disk + Drop>(
     requires db { IsTrue (D.Disk.is_usable files.db) }
     // Of files that a history left, the history goes on with this session.
     ensures holds { (new : Point) (first : Placed) (ends : List Ended)
-        → WasLeftBy (image_of D.Disk files) new ends first
+        → RecoversHistory (image_of D.Disk files) new ends first
         → MayMoveFor (image_of D.Disk files) first questions.items
         → HoldsNext D.Disk new ends first files questions.items result.answers result.files }
     // On a disk that is clean then, it was clean before.
@@ -165,7 +165,7 @@ pub fn hold_sessions<D: Crash + Drop>(
     requires db { IsTrue (D.Disk.is_usable files.db) }
     // Files that a history left, are left by the longer history.
     ensures holds { (new : Point) (first : Placed) (ends : List Ended)
-        → WasLeftBy (image_of D.Disk files) new ends first
+        → RecoversHistory (image_of D.Disk files) new ends first
         → IfOk result (λ it. HoldsAll D.Disk new ends first (image_of D.Disk files)
         sessions.items it.answers.items it.files) }
     ensures back { IfErr result (λ back. back ≡ files) }

@@ -42,7 +42,8 @@ impl Clients for Queue {
 
     ghost coming = { λ queue. Some (map (λ input. input.items) queue.coming.items) };
 
-    ghost got = { λ queue. option_map (λ gone. map (λ it. record { bytes = Some it.bytes.items; failed = it.has_failed }) gone.items) queue.gone };
+    ghost got = { λ queue. option_map (λ gone. map (λ it.
+        record { bytes = Some it.bytes.items; failed = it.has_failed }) gone.items) queue.gone };
 
     fn accept(&mut self) -> Result<Option<Visit<VecDeque<u8>, Vec<u8>>>, AcceptFault>
         ensures comes { MatchResult result

@@ -19,7 +19,7 @@ use Rattle.sqlite_disk.specs.declared.start.Start as start
 use Rattle.sqlite_std_file.specs.declared.host.Host.{Host}
 use Rattle.sqlite.specs.declared.{error.Error.Error, error.Error.TheVariants.SqliteFailure, file.Leftover.Leftover}
 use Rattle.sqlite.specs.declared.error.ErrorCode.TheVariants.{CannotOpen, DatabaseBusy, OutOfMemory}
-use Rattle.er_store.specs.Fault.{IsFault, refusal_of}
+use Rattle.er_store.specs.Fault.{IsFault, store_refusal}
 use Rattle.sqlite_trees.specs.Props.{Trees-set}
 use Rattle.sqlite.specs.{Tree.Trees, Effect.{Database, IsDatabase}, State.{State, Opens, IsLive, HasCleanDisk, IsUnchanged}, Start.FindsIn}
 use Rattle.sqlite.specs.{Files.HoldsDatabase, Held.{Held, state}}
@@ -27,10 +27,10 @@ use Rattle.sqlite_wal.specs.Recovery.{Image}
 use Rattle.er_event.specs.{Event.EventValue, declared.events.parts.Parts.Parts, declared.refusals.Place.Place}
 use Rattle.er_event.specs.declared.refusals.Refusal.TheVariants.{Memory, NoEvent, Damaged}
 use Rattle.er_store.specs.{Damage.ReadsParts, Reading.KeepsTables}
-use Rattle.er_store.specs.{Representing.{RepresentsIn, IsStoredIn, Shows, Leaves, ReadsEvent}}
+use Rattle.er_store.specs.{Representing.{RepresentsIn, IsStoredIn, RepresentsNow, AfterCrash, ReadsEvent}}
 use Rattle.er_store.specs.declared.Store.{Store}
-use Rattle.er_desk.specs.{Desk.{Placed, IsStoredAt}, Headline.{IsEmptyFile, WasLeft}}
-use Rattle.er_desk.specs.{Opening.{HoldsNothing, IsSpared, LeavesAll, NamesFirstFault}}
+use Rattle.er_desk.specs.{Desk.{Placed, IsStoredAt}, Headline.{IsEmptyFile, Recovers}}
+use Rattle.er_desk.specs.{Opening.{HoldsNothing, IsSpared, ChangesNothing, NamesFirstFault}}
 use Rattle.er_desk.proofs.Turns.{unchanged_keeps}
 use Rattle.er_store.specs.Store as tables
 
@@ -38,7 +38,7 @@ pub placed_is : (placed : Placed) (e : EventValue) (n v : ℕ) → e ≡ placed.
     → (let p : Placed = record { point = record { event = e; serial = n }; version = v } in p) ≡ placed
 placed_is placed e n v event serial version = rw (event, serial, version) refl
 
-pub shows_as : (v : ℕ) (s : State) (e f : EventValue) (m n : ℕ) → f ≡ e → n ≡ m → Shows v s e m → Shows v s f n
+pub shows_as : (v : ℕ) (s : State) (e f : EventValue) (m n : ℕ) → f ≡ e → n ≡ m → RepresentsNow v s e m → RepresentsNow v s f n
 shows_as v s e f m n event serial shows = rw (event, serial) shows
 
 -- the event's rows are read where the tables are
@@ -62,16 +62,16 @@ same_place place other is = cc
 
 -- a connection that a store gives back
 module _ {S : Type 0} (g : Ghosts S) (old : State) (back : Held S) (store : Store S g) (is : back ≡ tables.connection store) where
-  pub back_clean : HasCleanDisk (state g back) → HasCleanDisk (tables.state g store)
+  pub back_clean : HasCleanDisk (state g back) → HasCleanDisk (tables.store_state g store)
   back_clean clean = subst (λ (h : Held S). HasCleanDisk (state g h)) is clean
 
-  pub back_leaves_all : LeavesAll old (tables.state g store) → LeavesAll old (state g back)
-  back_leaves_all left = subst (λ (h : Held S). LeavesAll old (state g h)) (sym is) left
+  pub back_leaves_all : ChangesNothing old (tables.store_state g store) → ChangesNothing old (state g back)
+  back_leaves_all left = subst (λ (h : Held S). ChangesNothing old (state g h)) (sym is) left
 
 -- a store that only reads
 module _ (old new : State) (settled : (db : Trees) → IsTrue old.is_open → old.may_leave db → db ≡ old.committed.trees)
-    (clean : HasCleanDisk new → HasCleanDisk old) (crash : Leaves new old.may_leave) where
-  pub leaves_all : (HasCleanDisk new → KeepsTables old new) → LeavesAll old new
+    (clean : HasCleanDisk new → HasCleanDisk old) (crash : AfterCrash new old.may_leave) where
+  pub leaves_all : (HasCleanDisk new → KeepsTables old new) → ChangesNothing old new
   leaves_all kept = record {
     clean = clean;
     kept = kept;
@@ -79,7 +79,7 @@ module _ (old new : State) (settled : (db : Trees) → IsTrue old.is_open → ol
     left = λ is_open late db may. settled db is_open (crash late db may);
   }
 
-  pub unchanged_leaves_all : (HasCleanDisk new → IsUnchanged old new) → LeavesAll old new
+  pub unchanged_leaves_all : (HasCleanDisk new → IsUnchanged old new) → ChangesNothing old new
   unchanged_leaves_all same = leaves_all (λ late. unchanged_keeps old new (same late))
 
 -- ---- files
@@ -91,7 +91,7 @@ module _ (s : State) (image : Image) (opened : Opens s × IsLive s) (found : Fin
 
   -- what a crash left represents its event again
   pub opened_represents : (placed : Placed) → ((v : ℕ) (db : Database) (e : EventValue) (n : ℕ) → IsDatabase db → IsStoredIn v e n db.trees
-      → RepresentsIn v db e n) → WasLeft image placed → RepresentsIn placed.version s.now placed.point.event placed.point.serial
+      → RepresentsIn v db e n) → Recovers image placed → RepresentsIn placed.version s.now placed.point.event placed.point.serial
   opened_represents placed law (db, holds, stored) =
       law placed.version s.now placed.point.event placed.point.serial (opened.1 opened.0.is_open).0
       (subst (IsStoredAt placed) (sym (∥∥₁_elim holds (Trees-set _ _) (sees db))) stored)
@@ -134,7 +134,7 @@ module _ (s : State) (image : Image) (opened : Opens s × IsLive s) (found : Fin
 
 -- ---- files that were not opened
 
-pub is_fault : (error : Error) → IsFault (refusal_of error)
+pub is_fault : (error : Error) → IsFault (store_refusal error)
 is_fault error = grind (arith, common_steps)
 
 module _ {S : Type 0} {g : calls.Ghosts Host} {first : start.Ghosts S} {d : disk.Ghosts (Modelled Host S g first)} where

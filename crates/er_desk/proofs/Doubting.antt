@@ -30,7 +30,7 @@ module _ (law : NoDoubleEffect) (doubt : Command) (other : IsCorrection doubt �
       → IfSome o (λ (d : Command). (n : EventValue) × Steps event d (Ok n)) → IsFoundNew event doubt
   new_still event o is taken = subst (λ (c : Option Command). IfSome c (λ (d : Command). (n : EventValue) × Steps event d (Ok n))) is taken
 
-  pub found : (first last : Point) (session : Session) → session.doubt ≡ Some doubt → MayEnd first session last
+  pub found : (first last : Point) (session : Session) → session.in_doubt ≡ Some doubt → MayEnd first session last
       → IsFoundStored last.event doubt ⊎ IsFoundNew last.event doubt
-  found first last session is (inl kept) = inr (new_still last.event session.doubt is kept.taken)
-  found first last session is (inr ended) = inl (stored first last session session.doubt is ended)
+  found first last session is (inl kept) = inr (new_still last.event session.in_doubt is kept.taken)
+  found first last session is (inr ended) = inl (stored first last session session.in_doubt is ended)

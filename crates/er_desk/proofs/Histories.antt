@@ -4,47 +4,49 @@ use Rattle.std.proofs.Common.{Some, None, Ok, MatchOption, IfSome, refl, sym, ap
 use Rattle.std.proofs.{lemmas.Bool.Decides.nat_tests, lemmas.List.{take-append-drop, take-take, drop-take, take_more}}
 use Rattle.std.proofs.{lemmas.List.Elements.All-nil, lemmas.Option.{none-some, slice_get_within, get_or_from_slice_get}}
 use Rattle.std.specs.List.{slice_get}
-use Rattle.er_event.specs.{declared.commands.Command.Command, Event.EventValue, Change.created, Sound.{IsSetUp, IsInPlayoff}}
+use Rattle.er_event.specs.{declared.commands.Command.Command, Event.EventValue, Change.initial_event, Sound.{IsSetUp, IsInPlayoff}}
 use Rattle.er_rules.specs.{Sound.IsSound, Step.Steps, Fold.Folds}
-use Rattle.er_desk.specs.{Desk.Point, Run.{Session, MayEnd, EndsAfterKept, EndsWithDoubt}, History.{Ended, IsHistory, LeadsTo, found_of}}
-use Rattle.er_desk.specs.{History.{accepted, accepted_surely, listed}, Resuming.{SendsFrom, AllResume}}
+use Rattle.er_desk.specs.{Desk.Point, Run.{Session, MayEnd, EndsAfterAcknowledged, EndsWithDoubt}}
+use Rattle.er_desk.specs.History.{Ended, IsHistory, LeadsTo, found_of}
+use Rattle.er_desk.specs.{History.{accepted_commands, surely_accepted_commands, list_of_option}, Resuming.{SendsFrom, AllResume}}
 use Rattle.er_desk.proofs.Folding.{Folds-append, Folds-one}
 
 pub leads_then : (first mid last : Point) (xs ys : List Command) → LeadsTo first xs mid → LeadsTo mid ys last
     → LeadsTo first (xs ++ ys) last
 leads_then first mid last xs ys one two = grind (arith, common_steps, Folds-append, length-append)
 
-kept_leads : (first : Point) (s : Session) (last : Point) → EndsAfterKept first s last → LeadsTo first s.kept last
+kept_leads : (first : Point) (s : Session) (last : Point) → EndsAfterAcknowledged first s last → LeadsTo first s.acknowledged last
 kept_leads first s last ends = record { event = ends.event; serial = ends.serial }
 
 doubt_leads : (first : Point) (s : Session) (last : Point) (doubt : Command) → EndsWithDoubt first s last doubt
-    → LeadsTo first (s.kept ++ doubt ∷ []) last
+    → LeadsTo first (s.acknowledged ++ doubt ∷ []) last
 doubt_leads first s last doubt ends = grind (arith, common_steps, Folds-one, kept_leads, leads_then)
 
 -- with the doubt, the serial is one higher
 -- what the next session found
 pub found_leads : (first : Point) (it : Ended) → MayEnd first it.session it.last → LeadsTo first (found_of first.serial it) it.last
 found_leads first it (inl kept) = grind (arith, common_steps)
-found_leads first it (inr with_doubt) = by_doubt it.session.doubt refl with_doubt
+found_leads first it (inr with_doubt) = by_doubt it.session.in_doubt refl with_doubt
   where
-    by_doubt : (o : Option Command) → it.session.doubt ≡ o → MatchOption o ⊥ (EndsWithDoubt first it.session it.last)
+    by_doubt : (o : Option Command) → it.session.in_doubt ≡ o → MatchOption o ⊥ (EndsWithDoubt first it.session it.last)
         → LeadsTo first (found_of first.serial it) it.last
     by_doubt None is none = absurd none
     by_doubt (Some doubt) is ends = grind (arith, common_steps, doubt_leads, nat_tests)
 
 -- the last session may have its doubt or not
 last_leads : (first : Point) (it : Ended) → MayEnd first it.session it.last
-    → LeadsTo first (it.session.kept ++ listed it.session.doubt) it.last ⊎ LeadsTo first it.session.kept it.last
+    → LeadsTo first (it.session.acknowledged ++ list_of_option it.session.in_doubt) it.last ⊎ LeadsTo first it.session.acknowledged it.last
 last_leads first it (inl kept) = inr (kept_leads first it.session it.last kept)
-last_leads first it (inr with_doubt) = by_doubt it.session.doubt refl with_doubt
+last_leads first it (inr with_doubt) = by_doubt it.session.in_doubt refl with_doubt
   where
-    by_doubt : (o : Option Command) → it.session.doubt ≡ o → MatchOption o ⊥ (EndsWithDoubt first it.session it.last)
-        → LeadsTo first (it.session.kept ++ listed it.session.doubt) it.last ⊎ LeadsTo first it.session.kept it.last
+    by_doubt : (o : Option Command) → it.session.in_doubt ≡ o → MatchOption o ⊥ (EndsWithDoubt first it.session it.last)
+        → LeadsTo first (it.session.acknowledged ++ list_of_option it.session.in_doubt) it.last
+        ⊎ LeadsTo first it.session.acknowledged it.last
     by_doubt None is none = absurd none
     by_doubt (Some doubt) is ends = inl (rw is (doubt_leads first it.session it.last doubt ends))
 
 pub history_leads : (first : Point) (ends : List Ended) (last : Point) → IsHistory first ends last
-    → LeadsTo first (accepted first.serial ends) last ⊎ LeadsTo first (accepted_surely first.serial ends) last
+    → LeadsTo first (accepted_commands first.serial ends) last ⊎ LeadsTo first (surely_accepted_commands first.serial ends) last
 history_leads first [] last is = grind (arith, common_steps)
 history_leads first (it ∷ []) last (ends, is) = grind (arith, common_steps, last_leads)
 history_leads first (it ∷ next ∷ more) last (ends, rest) =
@@ -67,7 +69,7 @@ fold_sound keeps first last (command ∷ more) sound (next, steps, rest) =
 
 -- ---- a new event
 
-pub new_sound : (name : List ℕ) (rounds cut : ℕ) → IsSetUp name rounds cut → IsSound (created name rounds cut)
+pub new_sound : (name : List ℕ) (rounds cut : ℕ) → IsSetUp name rounds cut → IsSound (initial_event name rounds cut)
 new_sound name rounds cut set_up = record {
   but_for_seeds = record {
     set_up = set_up;
@@ -100,7 +102,7 @@ new_sound name rounds cut set_up = record {
   seeds = λ first at. absurd (none-some first at);
 }
   where
-    early : IsInPlayoff (created name rounds cut) → ⊥
+    early : IsInPlayoff (initial_event name rounds cut) → ⊥
     early h1 = grind (arith, common_steps)
 
 -- ---- one list
@@ -115,17 +117,17 @@ one_more xs n d at = take_more xs n d (slice_get_within xs n d at) ∙ ap
 
 sent : (start : EventValue) (commands : List Command) (first : Point) (it : Ended) → Folds start (take first.serial commands) first.event
     → SendsFrom commands first.serial it.session → (mid : Point)
-    → EndsAfterKept first it.session mid → Folds start (take mid.serial commands) mid.event
+    → EndsAfterAcknowledged first it.session mid → Folds start (take mid.serial commands) mid.event
 sent start commands first it so_far sends mid ends = grind (arith, common_steps, Folds-append, take_add)
 
 one_sent : (start : EventValue) (commands : List Command) (first : Point) (it : Ended)
     → Folds start (take first.serial commands) first.event → SendsFrom commands first.serial it.session
     → MayEnd first it.session it.last → Folds start (take it.last.serial commands) it.last.event
 one_sent start commands first it so_far sends (inl kept) = sent start commands first it so_far sends it.last kept
-one_sent start commands first it so_far sends (inr with_doubt) = by_doubt it.session.doubt refl with_doubt sends.doubt
+one_sent start commands first it so_far sends (inr with_doubt) = by_doubt it.session.in_doubt refl with_doubt sends.doubt
   where
-    by_doubt : (o : Option Command) → it.session.doubt ≡ o → MatchOption o ⊥ (EndsWithDoubt first it.session it.last)
-        → IfSome o (λ d. slice_get commands (first.serial + length it.session.kept) ≡ Some d)
+    by_doubt : (o : Option Command) → it.session.in_doubt ≡ o → MatchOption o ⊥ (EndsWithDoubt first it.session it.last)
+        → IfSome o (λ d. slice_get commands (first.serial + length it.session.acknowledged) ≡ Some d)
         → Folds start (take it.last.serial commands) it.last.event
     by_doubt None is none at = absurd none
     by_doubt (Some d) is ends at =

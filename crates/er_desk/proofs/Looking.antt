@@ -4,17 +4,18 @@ use Rattle.sqlite.specs.{Tree.Trees, State.{State, HasCleanDisk, IsUnchanged}, H
 use Rattle.sqlite.specs.Held as sqlite
 use Rattle.sqlite_trees.specs.declared.store.Store.{Ghosts}
 use Rattle.er_event.specs.declared.refusals.Refusal.{Refusal, TheVariants.NeedsReopen}
-use Rattle.er_store.specs.{Calls.{OnlyReads, StopsUnless, StopsByReadFault}, Fault.IsReadFault, Reading.KeepsTables, Representing.Leaves}
+use Rattle.er_store.specs.{Calls.{OnlyReads, StopsUnless, StopsByReadFault}, Fault.IsReadFault, Reading.KeepsTables}
+use Rattle.er_store.specs.Representing.{AfterCrash}
 use Rattle.er_store.specs.declared.Store.{Store}
 use Rattle.er_store.specs.Store as tables
-use Rattle.er_desk.specs.{declared.desk.Desk.Desk, Looking.ReadsTables, Headline.LeavesJust}
-use Rattle.er_desk.specs.Desk.{ShowsOwn, Reads, point_of, placed_of, state, desk_state, version_in}
+use Rattle.er_desk.specs.{declared.desk.Desk.Desk, Looking.ReadsTables, Headline.RecoversJust}
+use Rattle.er_desk.specs.Desk.{HoldsOwnEvent, Reads, point_of, placed_of, state, desk_state, version_in}
 use Rattle.er_desk.proofs.{Adopting.leaves_all, Asking.{read_asks, same_asks}, Slips.{read_keeps, reads}}
 use Rattle.er_desk.proofs.{Turns.{same_keeps, unchanged_keeps}}
 
 module _ {S : Type 0} (g : Ghosts S) (old : Desk S g) (passing : Refusal)
     (settled : (db : Trees) → IsTrue (state g old).is_open → (state g old).may_leave db → db ≡ (state g old).committed.trees)
-    (left : ShowsOwn g old → LeavesJust (state g old) (placed_of (desk_state old))) where
+    (left : HoldsOwnEvent g old → RecoversJust (state g old) (placed_of (desk_state old))) where
   -- of a desk that runs
   pub reads_tables : {A : Type 0} (new : Desk S g) (read : Result A Refusal) → IsFalse (desk_state old).needs_reopen
       → point_of (desk_state new) ≡ point_of (desk_state old)
@@ -78,9 +79,11 @@ module _ {S : Type 0} (g : Ghosts S) (a b : Store S g) (runs : IsFalse (tables.n
     stops = λ runs. two.stops (one.stops runs);
     version = two.version ∙ one.version;
     clean = λ clean. one.clean (two.clean clean);
-    same = λ clean. ok_weaker r (unchanged_then (tables.state g a) (tables.state g b) (tables.state g c) (one.same (two.clean clean)))
+    same = λ clean. ok_weaker r
+        (unchanged_then (tables.store_state g a) (tables.store_state g b) (tables.store_state g c) (one.same (two.clean clean)))
         (two.same clean);
-    kept = λ clean. err_weaker r (keeps_after (tables.state g a) (tables.state g b) (tables.state g c) (one.same (two.clean clean)))
+    kept = λ clean. err_weaker r
+        (keeps_after (tables.store_state g a) (tables.store_state g b) (tables.store_state g c) (one.same (two.clean clean)))
         (two.kept clean);
     crash = λ clean trees may. one.crash (two.clean clean) trees (two.crash clean trees may);
   }
@@ -120,17 +123,17 @@ module _ {S : Type 0} (g : Ghosts S) (a b : Store S g) (runs : IsFalse (tables.n
     version = one.version;
     clean = one.clean;
     same = λ clean. tt;
-    kept = λ clean. unchanged_keeps (tables.state g a) (tables.state g b) (one.same clean);
+    kept = λ clean. unchanged_keeps (tables.store_state g a) (tables.store_state g b) (one.same clean);
     crash = one.crash;
   }
 
   -- or ends it
   pub reads_ended : {A B : Type 0} {Fails : Refusal → Bool → Type 0} (passing why : Refusal) (c : Store S g) (x : A)
       → OnlyReads g Fails a (Ok x) b
-      → tables.connection c ≡ tables.connection b → tables.version_in c ≡ tables.version_in b → IsReadFault why
+      → tables.connection c ≡ tables.connection b → tables.store_version c ≡ tables.store_version b → IsReadFault why
       → IsTrue (tables.needs_reopen c) → OnlyReads {A = B} g (StopsUnless passing) a (Err why) c
   reads_ended passing why c x one same version fault stopped =
-      let then : HasCleanDisk (tables.state g c) → HasCleanDisk (tables.state g b) =
+      let then : HasCleanDisk (tables.store_state g c) → HasCleanDisk (tables.store_state g b) =
       subst (λ (h : Held S). HasCleanDisk (sqlite.state g h)) same in
       record {
         waits = λ stopped. absurd (true≢false (sym stopped ∙ runs));
@@ -138,7 +141,7 @@ module _ {S : Type 0} (g : Ghosts S) (a b : Store S g) (runs : IsFalse (tables.n
         version = version ∙ one.version;
         clean = λ clean. one.clean (then clean);
         same = λ clean. tt;
-        kept = λ clean. subst (λ (h : Held S). KeepsTables (tables.state g a) (sqlite.state g h)) (sym same)
-            (unchanged_keeps (tables.state g a) (tables.state g b) (one.same (then clean)));
-        crash = subst (λ (h : Held S). Leaves (sqlite.state g h) (tables.state g a).may_leave) (sym same) one.crash;
+        kept = λ clean. subst (λ (h : Held S). KeepsTables (tables.store_state g a) (sqlite.state g h)) (sym same)
+            (unchanged_keeps (tables.store_state g a) (tables.store_state g b) (one.same (then clean)));
+        crash = subst (λ (h : Held S). AfterCrash (sqlite.state g h) (tables.store_state g a).may_leave) (sym same) one.crash;
       }

@@ -19,9 +19,9 @@ stays_second (Migrates ∷ more) = stays_second more
 ends_second : (first : Placed) (it : MovingEnded) → MayEndIn first it.session it.last → first.version ≡ 2 → it.last.version ≡ 2
 ends_second first it ends second = by_version ends.version
   where
-    by_version : (it.last.version ≡ version_after first.version it.session.kept)
-        ⊎ ((it.session.doubt ≡ Some Migrates) × (it.last.version ≡ 2)) → it.last.version ≡ 2
-    by_version (inl kept) = kept ∙ ap (λ v. version_after v it.session.kept) second ∙ stays_second it.session.kept
+    by_version : (it.last.version ≡ version_after first.version it.session.acknowledged)
+        ⊎ ((it.session.in_doubt ≡ Some Migrates) × (it.last.version ≡ 2)) → it.last.version ≡ 2
+    by_version (inl kept) = kept ∙ ap (λ v. version_after v it.session.acknowledged) second ∙ stays_second it.session.acknowledged
     by_version (inr doubt) = doubt.1
 
 pub no_way_back : (first : Placed) (ends : List MovingEnded) (last : Placed) → IsMovingHistory first ends last → first.version ≡ 2

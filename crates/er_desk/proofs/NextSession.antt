@@ -9,7 +9,7 @@ use Rattle.er_rules.specs.{Sound.IsSound, Step.Steps}
 use Rattle.er_desk.specs.Desk.{Point, Placed, IsStoredAt, placed_at}
 use Rattle.er_desk.specs.{Run.{Session, MayEnd, IsStoredEnd, no_session}}
 use Rattle.er_desk.specs.{History.{Ended, IsHistory, LeadsTo}, Headline.{Histories, IsEndOf, NextBegins}}
-use Rattle.er_desk.specs.Headline.{IsBeginning, WasLeft, WasLeftBy, and_then}
+use Rattle.er_desk.specs.Headline.{IsBeginning, Recovers, RecoversHistory, and_then}
 
 history_more : (new first : Point) (ends : List Ended) (it : Ended) → IsHistory new ends first → MayEnd first it.session it.last
     → IsHistory new (ends ++ it ∷ []) it.last
@@ -21,7 +21,7 @@ pub quiet_end : (first : Placed) (trees : Trees) → IsStoredAt first trees → 
 quiet_end first trees stored = (first.point, inl (record { event = refl; serial = omega arith; taken = tt }), stored)
 
 -- a session that leaves nothing in doubt ends where its acknowledged commands lead
-sure_end : (first : Point) (session : Session) (last : Point) → LeadsTo first session.kept last → session.doubt ≡ None
+sure_end : (first : Point) (session : Session) (last : Point) → LeadsTo first session.acknowledged last → session.in_doubt ≡ None
     → MayEnd first session last
 sure_end first session last leads sure = inl (record {
   event = leads.event;
@@ -46,8 +46,9 @@ module _ (law : Histories) (new first : Point) (ends : List Ended) (begins : IsB
       record { last = last; history = history; is_end = ends_so (and_then ends session last) last history; stored = stored }
 
   -- files that represent the sure end of the session were left by the history with it
-  pub next_leaves : (session : Session) (last : Placed) (left : Image) → LeadsTo first session.kept last.point → session.doubt ≡ None
-      → WasLeft left last → WasLeftBy left new (and_then ends session last.point) last
+  pub next_leaves : (session : Session) (last : Placed) (left : Image) → LeadsTo first session.acknowledged last.point
+      → session.in_doubt ≡ None
+      → Recovers left last → RecoversHistory left new (and_then ends session last.point) last
   next_leaves session last left leads sure stored = record {
     begins = begins;
     history = history_more new first ends (record { session = session; last = last.point }) was

@@ -5,7 +5,7 @@ use Rattle.std.specs.List.{slice_get}
 use Rattle.er_event.specs.{declared.commands.Command.Command, declared.refusals.Cause.Cause, declared.refusals.Refusal.TheVariants.Store}
 use Rattle.er_event.specs.{declared.refusals.Refusal.TheVariants.NeedsReopen, Event.EventValue}
 use Rattle.er_rules.specs.Fold.{Folds}
-use Rattle.er_desk.specs.{Reply.{Reply, IsLawful}, Desk.{DeskState, Stops, Turn}, Run.{Runs, acknowledged, FailsAt, IsRun}}
+use Rattle.er_desk.specs.{Reply.{Reply, IsLawfulReply}, Desk.{DeskState, Stops, Outcome}, Run.{Runs, acknowledged_commands, FailsAt, IsRun}}
 use Rattle.er_desk.proofs.{Turns.{turn_fault, waits_of, stops_of, stopped_of}, Running.runs_lead}
 
 -- once stopped, it stays so
@@ -17,12 +17,12 @@ runs_stopped old new (c ∷ cs) [] is was = absurd is
 runs_stopped old new (c ∷ cs) (r ∷ rs) (mid, turn, rest) was = runs_stopped mid new cs rs rest (stopped_of old mid c r turn (inl was))
 
 -- each reply is lawful, or the desk is stopped
-pub turn_lawful : (old new : DeskState) (c : Command) (r : Reply) → Turn old c r new
-    → IsLawful old.version old.event old.serial c r ⊎ ((r ≡ Err NeedsReopen) × IsTrue old.needs_reopen)
+pub turn_lawful : (old new : DeskState) (c : Command) (r : Reply) → Outcome old c r new
+    → IsLawfulReply old.version old.event old.serial c r ⊎ ((r ≡ Err NeedsReopen) × IsTrue old.needs_reopen)
 turn_lawful old new c r h1 = grind (arith, common_steps)
 
 -- the version stays
-turn_version : (old new : DeskState) (c : Command) (r : Reply) → Turn old c r new → new.version ≡ old.version
+turn_version : (old new : DeskState) (c : Command) (r : Reply) → Outcome old c r new → new.version ≡ old.version
 turn_version old new c r (inl it) = it.version_is
 turn_version old new c r (inr (inl it)) = ap (λ (s : DeskState). s.version) it.same
 turn_version old new c r (inr (inr (inl it))) = ap (λ (s : DeskState). s.version) it.needs_reopen
@@ -37,14 +37,14 @@ runs_version old new (c ∷ cs) (r ∷ rs) (mid, turn, rest) = runs_version mid 
 -- at each place
 abbrev At : DeskState → List Command → List Reply → DeskState → ℕ → Command → Reply → Type 0
 At old cs rs new k c r =
-    (mid : EventValue) × Folds old.event (acknowledged (take k cs) (take k rs)) mid
-    × (IsLawful old.version mid (old.serial + length (acknowledged (take k cs) (take k rs))) c r
+    (mid : EventValue) × Folds old.event (acknowledged_commands (take k cs) (take k rs)) mid
+    × (IsLawfulReply old.version mid (old.serial + length (acknowledged_commands (take k cs) (take k rs))) c r
     ⊎ ((r ≡ Err NeedsReopen) × IsTrue new.needs_reopen))
 
 -- the runs before and after a place
 split : (old new : DeskState) (cs : List Command) (rs : List Reply) (k : ℕ) (c : Command) (r : Reply) → Runs old cs rs new
     → slice_get cs k ≡ Some c → slice_get rs k ≡ Some r
-    → (mid : DeskState) × (next : DeskState) × Runs old (take k cs) (take k rs) mid × Turn mid c r next
+    → (mid : DeskState) × (next : DeskState) × Runs old (take k cs) (take k rs) mid × Outcome mid c r next
     × (IsTrue next.needs_reopen → IsTrue new.needs_reopen)
 split old new [] rs k c r is at there = absurd (none-some c at)
 split old new (x ∷ cs) [] k c r is at there = absurd (none-some r there)
@@ -124,9 +124,10 @@ runs_plain old new cs rs is =
           mid.event,
           before.event,
           elim (turn_lawful mid parts.1 c r parts.3) [
-            | inl lawful ↦ inl (subst (λ (v : ℕ). IsLawful v mid.event (old.serial + length (acknowledged (take k cs) (take k rs))) c r)
+            | inl lawful ↦ inl
+                (subst (λ (v : ℕ). IsLawfulReply v mid.event (old.serial + length (acknowledged_commands (take k cs) (take k rs))) c r)
                 (runs_version old mid (take k cs) (take k rs) parts.2)
-                (subst (λ (n : ℕ). IsLawful mid.version mid.event n c r) before.serial lawful))
+                (subst (λ (n : ℕ). IsLawfulReply mid.version mid.event n c r) before.serial lawful))
             | inr waits ↦ inr (waits.0, parts.4 (stopped_of mid parts.1 c r parts.3 (inl waits.1)))
           ],
         )

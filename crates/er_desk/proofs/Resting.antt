@@ -12,39 +12,40 @@ use Rattle.sqlite.specs.{Tree.Trees, Effect.{Database}, State.{State, HasCleanDi
 use Rattle.sqlite.specs.Files.{file_state, over_files, IsClosed, FailsToClose}
 use Rattle.sqlite.specs.Closing.{IsCopied, HoldsAlone}
 use Rattle.er_event.specs.Event.{EventValue}
-use Rattle.er_store.specs.Representing.{IsStoredIn, Shows}
+use Rattle.er_store.specs.Representing.{IsStoredIn, RepresentsNow}
 use Rattle.er_store.specs.Store as tables
 use Rattle.er_desk.specs.declared.desk.Desk.{Desk}
-use Rattle.er_desk.specs.Desk.{Placed, ShowsOwn, IsStoredAt, placed_of, desk_state, state, version_in}
-use Rattle.er_desk.specs.Headline.{LeavesJust}
-use Rattle.er_desk.specs.Closing.{IsAtRest, AreAtRest, LeavesNoMore, LosesNothing, IsClosedAs}
+use Rattle.er_desk.specs.Desk.{Placed, HoldsOwnEvent, IsStoredAt, placed_of, desk_state, state, version_in}
+use Rattle.er_desk.specs.Headline.{RecoversJust}
+use Rattle.er_desk.specs.Closing.{IsCheckpointed, AreCheckpointed, RecoversNoMore, LosesNothing, IsClosedAs}
 
 -- the last commit is the event
-committed_stored : (v : ℕ) (s : State) (e : EventValue) (n : ℕ) → Shows v s e n → IsStoredIn v e n s.committed.trees
+committed_stored : (v : ℕ) (s : State) (e : EventValue) (n : ℕ) → RepresentsNow v s e n → IsStoredIn v e n s.committed.trees
 committed_stored v s e n shows = subst (λ (d : Database). IsStoredIn v e n d.trees) shows.settled
     (record { schema = s.now.schema; sound = shows.sound; represents = shows.represents })
 
-rests : (image : Image) (db : Trees) (placed : Placed) → HoldsAlone image db → IsStoredAt placed db → IsAtRest image placed
+rests : (image : Image) (db : Trees) (placed : Placed) → HoldsAlone image db → IsStoredAt placed db → IsCheckpointed image placed
 rests image db placed holds stored = record { both = (db, holds.both, stored); alone = (db, holds.alone, stored) }
 
 module _ {D : Type 0} {g : Ghosts D} (desk : Desk (FileStore D g) over_files) (conn : Held (FileStore D g))
     (is : conn ≡ tables.connection desk.store) where
-  are_at_rest : (files : Files D) → IsCopied conn files → ShowsOwn over_files desk → AreAtRest g files (placed_of (desk_state desk))
+  are_at_rest : (files : Files D) → IsCopied conn files → HoldsOwnEvent over_files desk
+      → AreCheckpointed g files (placed_of (desk_state desk))
   are_at_rest files copied shows =
-      let own : Shows (version_in desk) (file_state conn) desk.event desk.serial =
-      subst (λ (h : Held (FileStore D g)). Shows (version_in desk) (file_state h) desk.event desk.serial) (sym is) shows in
+      let own : RepresentsNow (version_in desk) (file_state conn) desk.event desk.serial =
+      subst (λ (h : Held (FileStore D g)). RepresentsNow (version_in desk) (file_state h) desk.event desk.serial) (sym is) shows in
       let stored = committed_stored (version_in desk) (file_state conn) desk.event desk.serial own in
       record {
         seen = rests _ _ (placed_of (desk_state desk)) copied.seen stored;
         left = λ image may. rests image _ (placed_of (desk_state desk)) (copied.left image may) stored;
       }
 
-  leaves_no_more : (last : FileStore D g) → IsClosed conn last → LeavesNoMore desk last
+  leaves_no_more : (last : FileStore D g) → IsClosed conn last → RecoversNoMore desk last
   leaves_no_more last closed trees may =
       subst (λ (h : Held (FileStore D g)). (file_state h).may_leave trees) is (closed.quiet.outcomes trees may)
 
   loses_nothing : (last : FileStore D g) → IsClosed conn last
-      → (ShowsOwn over_files desk → LeavesJust (state over_files desk) (placed_of (desk_state desk))) → LosesNothing desk last
+      → (HoldsOwnEvent over_files desk → RecoversJust (state over_files desk) (placed_of (desk_state desk))) → LosesNothing desk last
   loses_nothing last closed left =
       let was : IsClean (view last) → HasCleanDisk (state over_files desk) = λ clean.
       subst (λ (h : Held (FileStore D g)). HasCleanDisk (file_state h)) is (was_clean conn last closed clean) in
@@ -58,7 +59,7 @@ module _ {D : Type 0} {g : Ghosts D} (desk : Desk (FileStore D g) over_files) (c
 
   -- what the storage crate says of the close is what the desk says of it
   pub is_closed_as : (closed : Result (Files D) (Error × FileStore D g))
-      → (ShowsOwn over_files desk → LeavesJust (state over_files desk) (placed_of (desk_state desk)))
+      → (HoldsOwnEvent over_files desk → RecoversJust (state over_files desk) (placed_of (desk_state desk)))
       → IfOk closed (λ files. (last : FileStore D g) × (store_files last ≡ (files.log, files.db)) × IsClosed conn last
       × (IsClean (view last) → IsTrue (view last).is_open × (log_frames last ≡ 0)))
       → IfOk closed (λ files. AreClean g files.log files.db → IsCopied conn files)

@@ -8,11 +8,11 @@ use Rattle.er_event.specs.{declared.refusals.Refusal.TheVariants.NeedsReopen, Ev
 use Rattle.er_rules.specs.Step.{Steps, Answers}
 use Rattle.er_store.specs.{Fault.IsFault, Representing.{Either, KeepsOthers}}
 use Rattle.er_desk.specs.{Reply.Reply}
-use Rattle.er_desk.specs.Desk.{Point, Placed, DeskState, Accepts, Stops, Turn, ShowsOwn, IsStoredAt, IsStoredAfter, point_of}
+use Rattle.er_desk.specs.Desk.{Point, Placed, DeskState, Accepts, Stops, Outcome, HoldsOwnEvent, IsStoredAt, IsStoredAfter, point_of}
 use Rattle.er_desk.specs.Desk.{placed_at, placed_of, state}
 use Rattle.er_desk.specs.Desk.{desk_state, version_in}
-use Rattle.er_desk.specs.{declared.desk.Desk.Desk, Run.{Runs, acknowledged, tried_or}}
-use Rattle.er_desk.specs.{Run.{last_tried, Session, session_of, EndsAfterKept, EndsWithDoubt, IsStoredEnd}, History.LeadsTo}
+use Rattle.er_desk.specs.{declared.desk.Desk.Desk, Run.{Runs, acknowledged_commands, tried_or}}
+use Rattle.er_desk.specs.{Run.{last_tried, Session, session_of, EndsAfterAcknowledged, EndsWithDoubt, IsStoredEnd}, History.LeadsTo}
 use Rattle.er_desk.proofs.Turns.{stops_of, keeps_then}
 
 -- ---- one turn
@@ -24,31 +24,31 @@ no_receipt receipt why is = cc
 pub steps_of : (event next : EventValue) (command : Command) → Answers event command (Ok next) → Steps event command (Ok next)
 steps_of event next command h1 = grind (arith, common_steps)
 
-pub accepts_of : (old new : DeskState) (command : Command) (receipt : Receipt) → Turn old command (Ok receipt) new
+pub accepts_of : (old new : DeskState) (command : Command) (receipt : Receipt) → Outcome old command (Ok receipt) new
     → Accepts old command (Ok receipt) new
 accepts_of old new command receipt h1 = grind (arith, common_steps)
 
 -- a refusal leaves the event and its serial
-pub stays : (old new : DeskState) (command : Command) (why : Refusal) → Turn old command (Err why) new → placed_of new ≡ placed_of old
+pub stays : (old new : DeskState) (command : Command) (why : Refusal) → Outcome old command (Err why) new → placed_of new ≡ placed_of old
 stays old new command why h1 = grind (arith, common_steps)
 
 pub stops_now : (old new : DeskState) (command : Command) (reply : Reply) → IsFalse old.needs_reopen → IsTrue new.needs_reopen
-    → Turn old command reply new → Stops old command reply new
+    → Outcome old command reply new → Stops old command reply new
 stops_now old new command reply runs stopped turn =
     elim (stops_of old new command reply turn stopped) [ inl was ↦ absurd (true≢false (sym was ∙ runs)) | inr stops ↦ stops ]
 
 -- ---- many
 
 pub runs_push : (old mid new : DeskState) (cs : List Command) (rs : List Reply) (c : Command) (r : Reply) → Runs old cs rs mid
-    → Turn mid c r new → Runs old (cs ++ c ∷ []) (rs ++ r ∷ []) new
-runs_push old mid new [] [] c r is turn = (new, subst (λ (s : DeskState). Turn s c r new) is turn, refl)
+    → Outcome mid c r new → Runs old (cs ++ c ∷ []) (rs ++ r ∷ []) new
+runs_push old mid new [] [] c r is turn = (new, subst (λ (s : DeskState). Outcome s c r new) is turn, refl)
 runs_push old mid new [] (s ∷ rs) c r is turn = absurd is
 runs_push old mid new (d ∷ cs) [] c r is turn = absurd is
 runs_push old mid new (d ∷ cs) (s ∷ rs) c r is turn = (is.0, is.1, runs_push is.0 mid new cs rs c r is.2 turn)
 
 -- the acknowledged commands lead to the desk's state
 pub runs_lead : (old new : DeskState) (cs : List Command) (rs : List Reply) → Runs old cs rs new
-    → LeadsTo (point_of old) (acknowledged cs rs) (point_of new)
+    → LeadsTo (point_of old) (acknowledged_commands cs rs) (point_of new)
 runs_lead old new [] [] is = grind (arith, common_steps)
 runs_lead old new [] (r ∷ rs) is = absurd is
 runs_lead old new (c ∷ cs) [] is = absurd is
@@ -61,7 +61,7 @@ runs_lead old new (c ∷ cs) (Ok r ∷ rs) (mid, turn, rest) =
 runs_lead old new (c ∷ cs) (Err why ∷ rs) (mid, turn, rest) = grind (arith, common_steps, runs_lead mid new cs rs rest)
 
 refused_push : (old mid : DeskState) (cs : List Command) (rs : List Reply) (c : Command) (why : Refusal) → Runs old cs rs mid
-    → acknowledged (cs ++ c ∷ []) (rs ++ Err why ∷ []) ≡ acknowledged cs rs
+    → acknowledged_commands (cs ++ c ∷ []) (rs ++ Err why ∷ []) ≡ acknowledged_commands cs rs
 refused_push old mid [] [] c why is = refl
 refused_push old mid [] (s ∷ rs) c why is = absurd is
 refused_push old mid (d ∷ cs) [] c why is = absurd is
@@ -94,13 +94,13 @@ session_waits old mid cs rs c r answer is = grind (arith, common_steps, refused_
 
 -- where the doubt is a command that the step takes, the session may end before or after it
 ends_either : (first : Placed) (mid : DeskState) (s : Session) (c : Command) (next : EventValue) (trees : Trees)
-    → LeadsTo first.point s.kept (point_of mid) → s.doubt ≡ Some c → Steps mid.event c (Ok next)
+    → LeadsTo first.point s.acknowledged (point_of mid) → s.in_doubt ≡ Some c → Steps mid.event c (Ok next)
     → Either (IsStoredAt (placed_at (point_of mid) first.version)) (IsStoredAfter (placed_at (point_of mid) first.version) c) trees
     → IsStoredEnd first s trees
 ends_either first mid s c next trees leads doubt steps left =
-    let taken : IfSome s.doubt (λ (d : Command). (n : EventValue) × Steps mid.event d (Ok n)) =
+    let taken : IfSome s.in_doubt (λ (d : Command). (n : EventValue) × Steps mid.event d (Ok n)) =
     subst (λ (o : Option Command). IfSome o (λ (d : Command). (n : EventValue) × Steps mid.event d (Ok n))) (sym doubt) (next, steps) in
-    let kept : EndsAfterKept first.point s (point_of mid) = record { event = leads.event; serial = leads.serial; taken = taken } in
+    let kept : EndsAfterAcknowledged first.point s (point_of mid) = record { event = leads.event; serial = leads.serial; taken = taken } in
     elim left [
       | inl before ↦ (point_of mid, inl kept, before)
       | inr (n, answers, after) ↦
@@ -134,10 +134,10 @@ session_goes_on old new cs rs trees is same stored =
     )
 
 -- a command leaves the version
-pub turn_version : (old new : DeskState) (command : Command) (reply : Reply) → Turn old command reply new → new.version ≡ old.version
+pub turn_version : (old new : DeskState) (command : Command) (reply : Reply) → Outcome old command reply new → new.version ≡ old.version
 turn_version old new command reply h1 = grind (arith, common_steps)
 
-pub was_running : (old new : DeskState) (command : Command) (reply : Reply) → IsFalse new.needs_reopen → Turn old command reply new
+pub was_running : (old new : DeskState) (command : Command) (reply : Reply) → IsFalse new.needs_reopen → Outcome old command reply new
     → IsFalse old.needs_reopen
 was_running old new command reply runs h1 = grind (arith, common_steps)
 
@@ -146,9 +146,9 @@ was_running old new command reply runs h1 = grind (arith, common_steps)
 -- other tables stay from one command to the next, also where the desk has stopped
 module _ {S : Type 0} (g : Ghosts S) (first old new : Desk S g) where
   pub keeps_more : version_in old ≡ version_in first → (IsTrue (desk_state old).needs_reopen → new ≡ old)
-      → (IsFalse (desk_state old).needs_reopen → ShowsOwn g old)
+      → (IsFalse (desk_state old).needs_reopen → HoldsOwnEvent g old)
       → (IsTrue (state g old).is_open → KeepsOthers (version_in first) (state g first).now (state g old).now)
-      → (ShowsOwn g old → IsTrue (state g new).is_open → KeepsOthers (version_in old) (state g old).now (state g new).now)
+      → (HoldsOwnEvent g old → IsTrue (state g new).is_open → KeepsOthers (version_in old) (state g old).now (state g new).now)
       → IsTrue (state g new).is_open → KeepsOthers (version_in first) (state g first).now (state g new).now
   keeps_more version waits represents before more is_open = by_stop (desk_state old).needs_reopen refl
     where

@@ -4,7 +4,7 @@ use Rattle.std.proofs.Common.{refl, sym, ap, ap₂, subst, ◌∙◌}
 use Rattle.sqlite.specs.{Effect.{Database, IsDatabase}, State.{State, IsUnchanged}}
 use Rattle.er_event.specs.declared.refusals.Refusal.{Refusal}
 use Rattle.er_event.specs.Event.{EventValue}
-use Rattle.er_store.specs.{Fault.IsReadFault, Reading.KeepsTables, Representing.{KeepsOthers, RepresentsIn, Shows}}
+use Rattle.er_store.specs.{Fault.IsReadFault, Reading.KeepsTables, Representing.{KeepsOthers, RepresentsIn, RepresentsNow}}
 use Rattle.er_desk.specs.Desk.{DeskState, Reads}
 use Rattle.er_desk.proofs.Turns.{keeps_self, unchanged_keeps}
 
@@ -41,7 +41,8 @@ reads passing old v is (Err why) runs same (inr (fault, stopped)) =
     inr (inl (runs, ap₂ (λ (n : ℕ) (b : Bool). record old { version = n; needs_reopen = b }) same stopped, why, fault, refl))
 
 -- and the tables represent its event
-pub still_shows : (v w : ℕ) (old new : State) (e : EventValue) (n : ℕ) → w ≡ v → Shows v old e n → IsUnchanged old new → Shows w new e n
+pub still_shows : (v w : ℕ) (old new : State) (e : EventValue) (n : ℕ) → w ≡ v → RepresentsNow v old e n → IsUnchanged old new
+    → RepresentsNow w new e n
 still_shows v w old new e n is shows same = record {
   is_open = same.0.is_open;
   sound = subst IsDatabase (sym same.0.now_is) shows.sound;

@@ -13,8 +13,8 @@ use Rattle.er_event.specs.{declared.refusals.Refusal.TheVariants.NeedsReopen, Ev
 use Rattle.er_rules.specs.{Late.is_late, Refusing.IsOfRules, Step.{Answers, NeedsMoreSteps}}
 use Rattle.er_store.specs.{Fault.IsFault, Reading.KeepsTables, Representing.{IsOther, HasTablesAt, KeepsOthers}, Layout.Layout}
 use Rattle.er_desk.specs.{Reply.{Reply, reply_to, receipt, IsDue}}
-use Rattle.er_desk.specs.{Desk.{DeskState, Turn, Stops, ShowsOwn, IsOwn, placed_of, state, desk_state}}
-use Rattle.er_desk.specs.{Headline.LeavesJust, inside.Taking.TakesChange, declared.desk.Desk.Desk}
+use Rattle.er_desk.specs.{Desk.{DeskState, Outcome, Stops, HoldsOwnEvent, IsOwn, placed_of, state, desk_state}}
+use Rattle.er_desk.specs.{Headline.RecoversJust, inside.Taking.TakesChange, declared.desk.Desk.Desk}
 
 -- ---- replies
 
@@ -31,14 +31,14 @@ module _ (version : ℕ) (event : EventValue) (serial : ℕ) (command : Command)
 
 module _ (old : DeskState) (runs : IsFalse old.needs_reopen) (command : Command) where
   declines : (why : Refusal) → (why ≡ Memory) ⊎ IsDue old.version old.event old.serial command (Err why) → IsOwn why
-      → Turn old command (Err why) old
+      → Outcome old command (Err why) old
   declines why cause own = inr (inl (record { was_running = runs; same = refl; why = why; answered = refl; cause = cause; own = own }))
 
   -- the step refuses it, or memory is wanting
   pub declined : (result : Reply) (why : Refusal) → IsErrAnd result (λ e. e ≡ why) → (why ≡ Memory) ⊎ Answers old.event command (Err why)
-      → (why ≡ Memory) ⊎ IsOfRules why → Turn old command result old
+      → (why ≡ Memory) ⊎ IsOfRules why → Outcome old command result old
   declined (Ok r) why is cause named = absurd is
-  declined (Err e) why is cause named = subst (λ (w : Refusal). Turn old command (Err w) old) (sym is)
+  declined (Err e) why is cause named = subst (λ (w : Refusal). Outcome old command (Err w) old) (sym is)
       (declines why (due cause) (own named))
     where
       due : (why ≡ Memory) ⊎ Answers old.event command (Err why)
@@ -51,13 +51,13 @@ module _ (old : DeskState) (runs : IsFalse old.needs_reopen) (command : Command)
       own (inr rules) = inr (inr (inr rules))
 
   -- all serials are given
-  pub full : (next : EventValue) → Answers old.event command (Ok next) → old.serial ≡ 999999 → Turn old command (Err SerialFull) old
+  pub full : (next : EventValue) → Answers old.event command (Ok next) → old.serial ≡ 999999 → Outcome old command (Err SerialFull) old
   full next taken last =
       declines SerialFull (inr (Ok next, taken, reply-full old.version old.event old.serial command next last)) (inr (inl refl))
 
   -- the tables have no place for who comes late
   pub too_late : (next : EventValue) → Answers old.event command (Ok next) → old.serial < 999999
-      → IsTrue (is_late old.version old.event command) → Turn old command (Err BadSetup) old
+      → IsTrue (is_late old.version old.event command) → Outcome old command (Err BadSetup) old
   too_late next taken room late =
       declines BadSetup (inr (Ok next, taken, reply-late old.version old.event old.serial command next room late)) (inr (inr (inl refl)))
 
@@ -66,7 +66,7 @@ module _ (old : DeskState) (runs : IsFalse old.needs_reopen) (command : Command)
       → Answers old.event command (Ok next) → old.serial < 999999 → IsFalse (is_late old.version old.event command)
       → IfOk result (λ r. (new ≡ record old { event = next; serial = old.serial + 1 }) × (r.serial ≡ old.serial + 1))
       → IfErr result (λ why. (Same × (why ≡ Memory)) ⊎ ((new ≡ record old { needs_reopen = true }) × IsFault why))
-      → Turn old command result new
+      → Outcome old command result new
   written new (Ok r) next Same same taken room in_time (is, numbered) refused =
       let serial = ap (λ (s : DeskState). s.serial) is in inl (record {
         was_running = runs;
@@ -125,32 +125,32 @@ fault_reopen (inr refused) = cc
 
 module _ (old new : DeskState) (command : Command) (result : Reply) where
   -- a fault of the store stops the desk
-  pub turn_fault : Turn old command result new → (cause : Cause) → result ≡ Err (Store cause) → IsTrue new.needs_reopen
+  pub turn_fault : Outcome old command result new → (cause : Cause) → result ≡ Err (Store cause) → IsTrue new.needs_reopen
   turn_fault (inl it) cause is = absurd (no_receipt _ _ (sym it.answered ∙ is))
   turn_fault (inr (inl it)) cause is = absurd (own_store cause (subst IsOwn (same_refusal _ _ (sym it.answered ∙ is)) it.own))
   turn_fault (inr (inr (inl it))) cause is = ap (λ (s : DeskState). s.needs_reopen) it.needs_reopen
   turn_fault (inr (inr (inr it))) cause is = ap (λ (s : DeskState). s.needs_reopen) it.same ∙ it.needed_reopen
 
   -- and only a stopped desk asks for reopening
-  pub turn_asks : Turn old command result new → result ≡ Err NeedsReopen → IsTrue old.needs_reopen
+  pub turn_asks : Outcome old command result new → result ≡ Err NeedsReopen → IsTrue old.needs_reopen
   turn_asks (inl it) is = absurd (no_receipt _ _ (sym it.answered ∙ is))
   turn_asks (inr (inl it)) is = absurd (own_reopen (subst IsOwn (same_refusal _ _ (sym it.answered ∙ is)) it.own))
   turn_asks (inr (inr (inl it))) is = absurd (fault_reopen (subst IsFault (same_refusal _ _ (sym it.answered ∙ is)) it.fault))
   turn_asks (inr (inr (inr it))) is = it.needed_reopen
 
-  pub waits_of : Turn old command result new → IsTrue old.needs_reopen → result ≡ Err NeedsReopen
+  pub waits_of : Outcome old command result new → IsTrue old.needs_reopen → result ≡ Err NeedsReopen
   waits_of (inl it) stopped = absurd (true≢false (sym stopped ∙ it.was_running))
   waits_of (inr (inl it)) stopped = absurd (true≢false (sym stopped ∙ it.was_running))
   waits_of (inr (inr (inl it))) stopped = absurd (true≢false (sym stopped ∙ it.was_running))
   waits_of (inr (inr (inr it))) stopped = it.answered
 
-  pub stops_of : Turn old command result new → IsTrue new.needs_reopen → IsTrue old.needs_reopen ⊎ Stops old command result new
+  pub stops_of : Outcome old command result new → IsTrue new.needs_reopen → IsTrue old.needs_reopen ⊎ Stops old command result new
   stops_of (inl it) stopped = absurd (true≢false (sym stopped ∙ it.runs))
   stops_of (inr (inl it)) stopped = inl (sym (ap (λ (s : DeskState). s.needs_reopen) it.same) ∙ stopped)
   stops_of (inr (inr (inl it))) stopped = inr it
   stops_of (inr (inr (inr it))) stopped = inl it.needed_reopen
 
-  pub stopped_of : Turn old command result new → IsTrue old.needs_reopen ⊎ Stops old command result new → IsTrue new.needs_reopen
+  pub stopped_of : Outcome old command result new → IsTrue old.needs_reopen ⊎ Stops old command result new → IsTrue new.needs_reopen
   stopped_of turn (inr stops) = ap (λ (s : DeskState). s.needs_reopen) stops.needs_reopen
   stopped_of (inl it) (inl was) = absurd (true≢false (sym was ∙ it.was_running))
   stopped_of (inr (inl it)) (inl was) = ap (λ (s : DeskState). s.needs_reopen) it.same ∙ was
@@ -172,7 +172,7 @@ no_budget why steps (inr late) is = cc
 
 module _ (old new : DeskState) (command : Command) where
   -- where the search has too few steps, the step said so
-  pub turn_budget : (result : Reply) → Turn old command result new → (steps : ℕ) → result ≡ Err (Budget steps)
+  pub turn_budget : (result : Reply) → Outcome old command result new → (steps : ℕ) → result ≡ Err (Budget steps)
       → Answers old.event command (Err (Budget steps))
   turn_budget result (inl it) steps is = absurd (no_receipt _ _ (sym it.answered ∙ is))
   turn_budget result (inr (inl it)) steps is = by_cause it.why it.cause (same_refusal _ _ (sym it.answered ∙ is))
@@ -195,7 +195,7 @@ module _ (old new : DeskState) (command : Command) where
   not_taken next needs (inr (is, more)) = cc
 
   -- and it always says so, where memory lasts
-  pub turn_searched : (result : Reply) → Turn old command result new → IsFalse old.needs_reopen → NeedsMoreSteps old.event command
+  pub turn_searched : (result : Reply) → Outcome old command result new → IsFalse old.needs_reopen → NeedsMoreSteps old.event command
       → (result ≡ Err Memory) ⊎ ((steps : ℕ) × (result ≡ Err (Budget steps)))
   turn_searched result (inl it) runs needs = absurd (not_taken _ needs it.taken)
   turn_searched result (inr (inl it)) runs needs = elim it.cause [
@@ -269,22 +269,23 @@ module _ {S : Type 0} (g : Ghosts S) (old new : Desk S g) (result : Reply) where
       same why (inl own) runs = own.0
       same why (inr is) runs = absurd (stops is.0 runs)
 
-  pub represents_after : ShowsOwn g old → OnOk result (ShowsOwn g new) → IsUnwritten → IsFalse (desk_state new).needs_reopen
-      → ShowsOwn g new
+  pub represents_after : HoldsOwnEvent g old → OnOk result (HoldsOwnEvent g new) → IsUnwritten → IsFalse (desk_state new).needs_reopen
+      → HoldsOwnEvent g new
   represents_after shows done refused runs = grind (arith, common_steps)
 
-  pub leaves_refused : LeavesJust (state g old) (placed_of (desk_state old)) → IsUnwritten
-      → IfErr result (λ _. IsFalse (desk_state new).needs_reopen → LeavesJust (state g new) (placed_of (desk_state old)))
+  pub leaves_refused : RecoversJust (state g old) (placed_of (desk_state old)) → IsUnwritten
+      → IfErr result (λ _. IsFalse (desk_state new).needs_reopen → RecoversJust (state g new) (placed_of (desk_state old)))
   leaves_refused leaves refused = if_error _ _ result left refused
     where
-      left : (why : Refusal) → Unwritten why → IsFalse (desk_state new).needs_reopen → LeavesJust (state g new) (placed_of (desk_state old))
+      left : (why : Refusal) → Unwritten why → IsFalse (desk_state new).needs_reopen
+          → RecoversJust (state g new) (placed_of (desk_state old))
       left why (inl own) runs =
-          subst (λ (d : Desk S g). LeavesJust (state g d) (placed_of (desk_state old))) (sym own.0) leaves
+          subst (λ (d : Desk S g). RecoversJust (state g d) (placed_of (desk_state old))) (sym own.0) leaves
       left why (inr is) runs = absurd (stops is.0 runs)
 
 -- a change for which memory is wanting beside the store leaves all as it was
 pub untaken : {S : Type 0} (g : Ghosts S) (desk : Desk S g) (change : Change) (reply : Reply) (why : Refusal)
-    → IsErrAnd reply (λ e. e ≡ why) → why ≡ Memory → (ShowsOwn g desk → LeavesJust (state g desk) (placed_of (desk_state desk)))
+    → IsErrAnd reply (λ e. e ≡ why) → why ≡ Memory → (HoldsOwnEvent g desk → RecoversJust (state g desk) (placed_of (desk_state desk)))
     → TakesChange g desk change reply desk
 untaken g desk change (Ok r) why is memory left = absurd is
 untaken g desk change (Err e) why is memory left = record {

@@ -4,7 +4,7 @@ use Rattle.sqlite.specs.Held as sqlite
 use Rattle.sqlite.specs.Held.{Held}
 use Rattle.sqlite.specs.State.{State, HasCleanDisk, IsUnchanged}
 use Rattle.sqlite_trees.specs.declared.store.Store.{Ghosts}
-use Rattle.er_event.specs.Change.{created}
+use Rattle.er_event.specs.Change.{initial_event}
 use Rattle.er_event.specs.Sound.{AreLimits, IsSoundButForSeeds}
 use Rattle.er_event.specs.declared.commands.TheConstants.{MAX_SERIAL}
 use Rattle.er_event.specs.declared.refusals.Place.TheVariants.{BracketTable}
@@ -12,15 +12,15 @@ use Rattle.er_event.specs.declared.refusals.Refusal.{Refusal}
 use Rattle.er_event.specs.declared.refusals.Refusal.TheVariants.{BadSetup, EventExists, NoEvent, Damaged}
 use Rattle.er_rules.specs.Sound.{IsSound, HasSeeds}
 use Rattle.er_store.specs.Begins.{alone_schema}
-use Rattle.er_store.specs.Beside.{ShowsBeside}
+use Rattle.er_store.specs.Beside.{HoldsBeside}
 use Rattle.er_store.specs.Fault.{IsFault, IsLoadFault}
 use Rattle.er_store.specs.Loading.{HoldsEvent}
 use Rattle.er_store.specs.Representing.{HasTables, AreKeyed, Represents, RepresentsIn, CanRead}
 use Rattle.er_desk.specs.declared.desk.Desk.{Desk}
-use Rattle.er_desk.specs.Desk.{Point, Placed, ShowsOwn, placed_at, running_at, state, desk_state, version_in}
-use Rattle.er_desk.specs.Headline.{IsEmptyFile, LeavesJust, FindsAgain, RepeatsNobody}
+use Rattle.er_desk.specs.Desk.{Point, Placed, HoldsOwnEvent, placed_at, running_at, state, desk_state, version_in}
+use Rattle.er_desk.specs.Headline.{IsEmptyFile, RecoversJust, FindsAgain, RepeatsNobody}
 use Rattle.er_desk.specs.History.{new_point}
-use Rattle.er_desk.specs.Opening.{LeavesAll, MakesNothing, NamesFirstFault}
+use Rattle.er_desk.specs.Opening.{ChangesNothing, MakesNothing, NamesFirstFault}
 
 -- The event was made with these limits, in version 2.
 pub record HasCreated {S : Type 0} (g : Ghosts S) (name : List ℕ) (rounds cut : ℕ) (old : State) (desk : Desk S g) : Type 0 where
@@ -32,11 +32,11 @@ pub record HasCreated {S : Type 0} (g : Ghosts S) (name : List ℕ) (rounds cut 
   -- nothing called `event` could be read before; whatever stood in the file stands as it was, and the event's tables are
   -- there beside it, after a crash too
   pub absent : HasCleanDisk (state g desk) → CanRead old.now.schema → ⊥
-  pub beside : HasCleanDisk (state g desk) → ShowsBeside 2 (created name rounds cut) old.now (state g desk)
+  pub beside : HasCleanDisk (state g desk) → HoldsBeside 2 (initial_event name rounds cut) old.now (state g desk)
   -- in an empty file they then stand alone and represent the new event, and so does each thing that a crash may leave
   pub alone : HasCleanDisk (state g desk) → IsEmptyFile old → (state g desk).now.schema ≡ alone_schema 2
-  pub created : HasCleanDisk (state g desk) → IsEmptyFile old → ShowsOwn g desk
-  pub acknowledged : IsEmptyFile old → LeavesJust (state g desk) (placed_at (new_point name rounds cut) 2)
+  pub created : HasCleanDisk (state g desk) → IsEmptyFile old → HoldsOwnEvent g desk
+  pub acknowledged : IsEmptyFile old → RecoversJust (state g desk) (placed_at (new_point name rounds cut) 2)
 
 -- It was not, and the connection comes back.
 pub record HasNotCreated {S : Type 0} (g : Ghosts S) (name : List ℕ) (rounds cut : ℕ) (conn : Held S) (back : Held S × Refusal)
@@ -67,7 +67,7 @@ pub record HasAdopted {S : Type 0} (g : Ghosts S) (old : State) (desk : Desk S g
   pub shows : HasCleanDisk (state g desk) → HasTables (version_in desk) old.now.schema
       → HoldsEvent (version_in desk) old.now desk.event desk.serial
   -- where they have the schema, they represent it
-  pub represents : HasCleanDisk (state g desk) → HasTables (version_in desk) old.now.schema → AreKeyed old.now → ShowsOwn g desk
+  pub represents : HasCleanDisk (state g desk) → HasTables (version_in desk) old.now.schema → AreKeyed old.now → HoldsOwnEvent g desk
   -- of tables that represent a sound event just that is found, in their version, with the seeds of its standings
   pub found : (placed : Placed) → RepresentsIn placed.version old.now placed.point.event placed.point.serial → IsSound placed.point.event
       → HasCleanDisk (state g desk) → FindsAgain g desk placed
@@ -75,7 +75,7 @@ pub record HasAdopted {S : Type 0} (g : Ghosts S) (old : State) (desk : Desk S g
       → (HasSeeds point.event → ⊥) → HasCleanDisk (state g desk) → ⊥
   -- nothing is written, and a crash leaves what it could before: the last commit, while the connection was open
   pub same : HasCleanDisk (state g desk) → IsUnchanged old (state g desk)
-  pub left : LeavesAll old (state g desk)
+  pub left : ChangesNothing old (state g desk)
 
 -- It was not, and the connection comes back. `NoEvent` and a damaged table come only for the first fault.
 pub record HasNotAdopted {S : Type 0} (g : Ghosts S) (old : State) (back : Held S × Refusal) : Type 0 where
@@ -88,7 +88,7 @@ pub record HasNotAdopted {S : Type 0} (g : Ghosts S) (old : State) (back : Held 
       → HasCleanDisk (sqlite.state g back.0) → IsFault back.1
   pub other_seeds : (point : Point) → Represents old.now point.event point.serial → IsSoundButForSeeds point.event
       → (HasSeeds point.event → ⊥) → HasCleanDisk (sqlite.state g back.0) → IsFault back.1 ⊎ (back.1 ≡ Damaged BracketTable)
-  pub left : LeavesAll old (sqlite.state g back.0)
+  pub left : ChangesNothing old (sqlite.state g back.0)
 
 abbrev pub AdoptsDesk : {S : Type 0} (g : Ghosts S) → Held S → Result (Desk S g) (Held S × Refusal) → Type 0
 AdoptsDesk g conn result = MatchResult result (HasAdopted g (sqlite.state g conn)) (HasNotAdopted g (sqlite.state g conn))

@@ -57,13 +57,13 @@ running_at point version = record { event = point.event; serial = point.serial; 
 
 -- what its store shows
 abbrev pub state : {S : Type 0} (g : Ghosts S) → Desk S g → State
-state g desk = store.state g desk.store
+state g desk = store.store_state g desk.store
 
 abbrev pub desk_state : {S : Type 0} {g : Ghosts S} → Desk S g → DeskState
 desk_state desk = record {
   event = desk.event;
   serial = desk.serial;
-  version = store.version_in desk.store;
+  version = store.store_version desk.store;
   needs_reopen = store.needs_reopen desk.store;
 }
 
@@ -89,11 +89,11 @@ IsOwn why = (why ≡ Memory) ⊎ (why ≡ SerialFull) ⊎ (why ≡ BadSetup) ⊎
 
 -- the version that its tables are of
 abbrev pub version_in : {S : Type 0} {g : Ghosts S} → Desk S g → ℕ
-version_in desk = store.version_in desk.store
+version_in desk = store.store_version desk.store
 
 -- its tables represent its event and its serial, in that version, with nothing pending
-abbrev pub ShowsOwn : {S : Type 0} (g : Ghosts S) → Desk S g → Type 0
-ShowsOwn g desk = tables.Shows (version_in desk) (state g desk) desk.event desk.serial
+abbrev pub HoldsOwnEvent : {S : Type 0} (g : Ghosts S) → Desk S g → Type 0
+HoldsOwnEvent g desk = tables.RepresentsNow (version_in desk) (state g desk) desk.event desk.serial
 
 module _ (old : DeskState) (command : Command) (reply : Reply) (new : DeskState) where
   -- the command is accepted
@@ -134,8 +134,8 @@ module _ (old : DeskState) (command : Command) (reply : Reply) (new : DeskState)
     pub same : new ≡ old
     pub answered : reply ≡ Err NeedsReopen
 
-  abbrev pub Turn : Type 0
-  Turn = Accepts ⊎ Declines ⊎ Stops ⊎ Waits
+  abbrev pub Outcome : Type 0
+  Outcome = Accepts ⊎ Declines ⊎ Stops ⊎ Waits
 
 -- Reading what the tables keep. What is read leaves the desk as it is, and so does one refusal that is no fault of the
 -- store. A fault of the store stops it, and a desk that was stopped asks for reopening.

@@ -25,5 +25,5 @@ IsFoundNew event command = (next : EventValue) × Steps event command (Ok next)
 abbrev pub DoubtsAreAnswered : Type 0
 DoubtsAreAnswered =
     (new : Point) (ends : List Ended) (session : Session) (version : ℕ) (trees : Trees) (next : NextBegins new ends session version trees)
-    (doubt : Command) → session.doubt ≡ Some doubt → (IsCorrection doubt → ⊥)
+    (doubt : Command) → session.in_doubt ≡ Some doubt → (IsCorrection doubt → ⊥)
     → IsFoundStored next.last.event doubt ⊎ IsFoundNew next.last.event doubt

@@ -6,19 +6,19 @@ use Rattle.sqlite.specs.Tree.{Trees}
 use Rattle.sqlite_disk.specs.declared.Disk.{Ghosts}
 use Rattle.sqlite_store.specs.declared.store.FileStore.{FileStore}
 use Rattle.sqlite_wal.specs.Recovery.{Image}
-use Rattle.er_event.specs.Change.{created}
+use Rattle.er_event.specs.Change.{initial_event}
 use Rattle.er_event.specs.declared.commands.TheConstants.{MAX_SERIAL}
 use Rattle.er_event.specs.declared.refusals.Refusal.TheVariants.{EventExists, NoEvent}
 use Rattle.er_rules.specs.Sound.{IsSound}
 use Rattle.er_store.specs.Begins.{alone_schema}
 use Rattle.er_store.specs.Fault.{IsFault, IsLoadFault}
-use Rattle.er_store.specs.Representing.{HasTables, AreKeyed, Either, IsStoredIn, Leaves}
+use Rattle.er_store.specs.Representing.{HasTables, AreKeyed, Either, IsStoredIn, AfterCrash}
 use Rattle.er_desk.specs.declared.desk.Desk.{Desk}
 use Rattle.er_desk.specs.declared.opening.OpenFault.{OpenFault}
-use Rattle.er_desk.specs.Desk.{Placed, ShowsOwn, placed_at, running_at, state, desk_state, version_in}
-use Rattle.er_desk.specs.Headline.{WasLeft, FindsAgain, LeavesJust, RepeatsNobody}
+use Rattle.er_desk.specs.Desk.{Placed, HoldsOwnEvent, placed_at, running_at, state, desk_state, version_in}
+use Rattle.er_desk.specs.Headline.{Recovers, FindsAgain, RecoversJust, RepeatsNobody}
 use Rattle.er_desk.specs.History.{new_point}
-use Rattle.er_desk.specs.Opening.{HoldsNothing, ListsNothing, MakesOver, LeavesOver, SeesStill, NamesFirstFaultIn, why_of}
+use Rattle.er_desk.specs.Opening.{HoldsNothing, ListsNothing, MakesOver, RecoversBeside, HoldsStill, NamesFirstFaultIn, why_of}
 use Rattle.er_desk.specs.Opening.{OnRefused, WhereUnopened, IsCleanFault}
 
 module _ {D : Type 0} {g : Ghosts D} (image : Image) where
@@ -28,14 +28,14 @@ module _ {D : Type 0} {g : Ghosts D} (image : Image) where
     pub sound : IsSound desk.event × (desk.serial ≤ MAX_SERIAL)
     pub repeats : RepeatsNobody desk.event
     -- of what a crash left of a sound event just that is found
-    pub found : (placed : Placed) → WasLeft image placed → IsSound placed.point.event → HasCleanDisk (state over_files desk)
+    pub found : (placed : Placed) → Recovers image placed → IsSound placed.point.event → HasCleanDisk (state over_files desk)
         → FindsAgain over_files desk placed
     -- where the tables have the schema, they represent what is found
     pub represents : HasCleanDisk (state over_files desk) → HasTables (version_in desk) (state over_files desk).now.schema
-        → AreKeyed (state over_files desk).now → ShowsOwn over_files desk
+        → AreKeyed (state over_files desk).now → HoldsOwnEvent over_files desk
     -- no table changes, and a crash leaves just what the file held
-    pub kept : (db : Trees) → HoldsDatabase image db → SeesStill (state over_files desk) db
-    pub left : (db : Trees) → HoldsDatabase image db → Leaves (state over_files desk) (λ trees. trees ≡ db)
+    pub kept : (db : Trees) → HoldsDatabase image db → HoldsStill (state over_files desk) db
+    pub left : (db : Trees) → HoldsDatabase image db → AfterCrash (state over_files desk) (λ trees. trees ≡ db)
 
   -- It was not. `NoEvent` and a damaged table come only for the first fault, and never where the files were not opened.
   pub record HasNotOpened (fault : OpenFault D g) : Type 0 where
@@ -43,9 +43,9 @@ module _ {D : Type 0} {g : Ghosts D} (image : Image) where
     pub unopened : WhereUnopened fault (IsFault (why_of fault))
     pub first : OnRefused fault (λ conn. HasCleanDisk (file_state conn) → NamesFirstFaultIn image (file_state conn) (why_of fault))
     -- of what a crash left of a sound event, memory or the device fails
-    pub found : (placed : Placed) → WasLeft image placed → IsSound placed.point.event → IsCleanFault fault → IsFault (why_of fault)
-    pub kept : (db : Trees) → HoldsDatabase image db → OnRefused fault (λ conn. SeesStill (file_state conn) db)
-    pub left : (db : Trees) → HoldsDatabase image db → OnRefused fault (λ conn. Leaves (file_state conn) (λ trees. trees ≡ db))
+    pub found : (placed : Placed) → Recovers image placed → IsSound placed.point.event → IsCleanFault fault → IsFault (why_of fault)
+    pub kept : (db : Trees) → HoldsDatabase image db → OnRefused fault (λ conn. HoldsStill (file_state conn) db)
+    pub left : (db : Trees) → HoldsDatabase image db → OnRefused fault (λ conn. AfterCrash (file_state conn) (λ trees. trees ≡ db))
 
   abbrev pub OpensFile : Result (Desk (FileStore D g) over_files) (OpenFault D g) → Type 0
   OpensFile result = MatchResult result HasOpened HasNotOpened
@@ -56,8 +56,8 @@ module _ {D : Type 0} {g : Ghosts D} (image : Image) where
       pub made : desk_state desk ≡ running_at (new_point name rounds cut) 2
       -- in a file that held nothing the five tables then stand alone and represent it, and so does each thing that a crash may leave
       pub alone : HoldsNothing image → HasCleanDisk (state over_files desk) → (state over_files desk).now.schema ≡ alone_schema 2
-      pub created : HoldsNothing image → HasCleanDisk (state over_files desk) → ShowsOwn over_files desk
-      pub acknowledged : HoldsNothing image → LeavesJust (state over_files desk) (placed_at (new_point name rounds cut) 2)
+      pub created : HoldsNothing image → HasCleanDisk (state over_files desk) → HoldsOwnEvent over_files desk
+      pub acknowledged : HoldsNothing image → RecoversJust (state over_files desk) (placed_at (new_point name rounds cut) 2)
       -- whatever database the file held stands as it was, and the event's tables are there beside it
       pub beside : (db : Trees) → HoldsDatabase image db → HasCleanDisk (state over_files desk)
           → MakesOver (new_point name rounds cut) db (state over_files desk)
@@ -67,9 +67,9 @@ module _ {D : Type 0} {g : Ghosts D} (image : Image) where
       pub why : (why_of fault ≡ EventExists) ⊎ IsFault (why_of fault)
       pub unopened : WhereUnopened fault (IsFault (why_of fault))
       pub crash : HoldsNothing image
-          → OnRefused fault (λ conn. Leaves (file_state conn) (Either ListsNothing (IsStoredIn 2 (created name rounds cut) 0)))
+          → OnRefused fault (λ conn. AfterCrash (file_state conn) (Either ListsNothing (IsStoredIn 2 (initial_event name rounds cut) 0)))
       pub beside_crash : (db : Trees) → HoldsDatabase image db → OnRefused fault (λ conn. HasCleanDisk (file_state conn)
-          → LeavesOver (new_point name rounds cut) db (file_state conn))
+          → RecoversBeside (new_point name rounds cut) db (file_state conn))
 
     abbrev pub MakesFile : Result (Desk (FileStore D g) over_files) (OpenFault D g) → Type 0
     MakesFile result = MatchResult result HasMade HasNotMade

@@ -3,8 +3,8 @@
 -- repeats an opponent or a bye.
 --
 -- What it supposes: the creation of the event, in an empty file, was acknowledged; nobody else writes the file, and the
--- device returns what was
--- written and keeps the storage crate's model of crashes (`HasCleanDisk`, in each `Leaves`); an opening begins on what a crash may leave.
+-- device returns what was written and keeps the storage crate's model of crashes (`HasCleanDisk`, in each `AfterCrash`);
+-- an opening begins on what a crash may leave.
 use Rattle.std.specs.Prelude.{◌≡◌, ◌⊎◌, ℕ, List, [], ◌∷◌, ◌++◌, AllPairs, IsFalse}
 use Rattle.sqlite_trees.specs.declared.store.Store.{Ghosts}
 use Rattle.sqlite.specs.Tree.{Trees}
@@ -18,38 +18,38 @@ use Rattle.er_event.specs.Sound.{IsSetUp}
 use Rattle.er_rank.specs.declared.rows.Row.{Row}
 use Rattle.er_rank.specs.Standings.{AreStandings, OneStandings}
 use Rattle.er_rules.specs.Sound.{IsSound}
-use Rattle.er_store.specs.Representing.{Leaves, Either}
+use Rattle.er_store.specs.Representing.{AfterCrash, Either}
 use Rattle.er_store.specs.Tables.{no_schema}
-use Rattle.er_desk.specs.Desk.{Point, Placed, ShowsOwn, IsStoredAt, IsStoredAfter, placed_at, placed_of, state, desk_state}
+use Rattle.er_desk.specs.Desk.{Point, Placed, HoldsOwnEvent, IsStoredAt, IsStoredAfter, placed_at, placed_of, state, desk_state}
 use Rattle.er_desk.specs.declared.desk.Desk.{Desk}
 use Rattle.er_desk.specs.Run.{Session, IsStoredEnd}
-use Rattle.er_desk.specs.History.{Ended, IsHistory, LeadsTo, accepted, accepted_surely, new_point}
+use Rattle.er_desk.specs.History.{Ended, IsHistory, LeadsTo, accepted_commands, surely_accepted_commands, new_point}
 
 -- each thing that a crash may leave represents this event and this serial, whole, in tables of this version
-abbrev pub LeavesJust : State → Placed → Type 0
-LeavesJust s placed = Leaves s (IsStoredAt placed)
+abbrev pub RecoversJust : State → Placed → Type 0
+RecoversJust s placed = AfterCrash s (IsStoredAt placed)
 
 -- for the event before the command or for the one after it, whole
-abbrev pub LeavesEither : State → Placed → Command → Type 0
-LeavesEither s placed command = Leaves s (Either (IsStoredAt placed) (IsStoredAfter placed command))
+abbrev pub RecoversEither : State → Placed → Command → Type 0
+RecoversEither s placed command = AfterCrash s (Either (IsStoredAt placed) (IsStoredAfter placed command))
 
 -- for the fold of the acknowledged commands, or for that with the one in doubt
-abbrev pub LeavesEnd : State → Placed → Session → Type 0
-LeavesEnd s first session = Leaves s (IsStoredEnd first session)
+abbrev pub RecoversEnd : State → Placed → Session → Type 0
+RecoversEnd s first session = AfterCrash s (IsStoredEnd first session)
 
 -- nothing stands in the file before the event is created in it
 abbrev pub IsEmptyFile : State → Type 0
 IsEmptyFile s = s.now.schema ≡ no_schema
 
 -- what the file holds is a thing that a crash left of this event
-abbrev pub WasLeft : Image → Placed → Type 0
-WasLeft image placed = (db : Trees) × ∥ HoldsDatabase image db ∥₁ × IsStoredAt placed db
+abbrev pub Recovers : Image → Placed → Type 0
+Recovers image placed = (db : Trees) × ∥ HoldsDatabase image db ∥₁ × IsStoredAt placed db
 
 -- an opening finds just this event and this serial, in this version: its tables represent them, and a crash leaves them again
 pub record FindsAgain {S : Type 0} (g : Ghosts S) (desk : Desk S g) (placed : Placed) : Type 0 where
   pub found : placed_of (desk_state desk) ≡ placed
-  pub shows : ShowsOwn g desk
-  pub leaves : LeavesJust (state g desk) placed
+  pub shows : HoldsOwnEvent g desk
+  pub leaves : RecoversJust (state g desk) placed
 
 -- no stored round repeats an opponent or a bye: no two stored matches have the same two players, where the second of a bye is 0
 abbrev pub RepeatsNobody : EventValue → Type 0
@@ -61,13 +61,12 @@ AreTheStandings event rows = AreStandings event rows × OneStandings event rows
 
 -- ---- many sessions
 
--- The event at the end of a history is sound, repeats no opponent and no bye, and is the fold of all accepted commands,
--- or of all but the last
--- session's doubt. Its serial is their number.
+-- The event at the end of a history is sound, repeats no opponent and no bye, and is the fold of all accepted commands, or of
+-- all but the one that the last session left in doubt. Its serial is their number.
 pub record IsEndOf (new : Point) (ends : List Ended) (last : Point) : Type 0 where
   pub sound : IsSound last.event
   pub repeats : RepeatsNobody last.event
-  pub leads : LeadsTo new (accepted new.serial ends) last ⊎ LeadsTo new (accepted_surely new.serial ends) last
+  pub leads : LeadsTo new (accepted_commands new.serial ends) last ⊎ LeadsTo new (surely_accepted_commands new.serial ends) last
 
 -- every history of a new event ends so
 abbrev pub Histories : Type 0
@@ -93,7 +92,7 @@ pub record IsBeginning (new : Point) : Type 0 where
   pub set_up : IsSetUp name limits.0 limits.1
 
 -- The file was left by a history of a new event, in tables of this version.
-pub record WasLeftBy (image : Image) (new : Point) (ends : List Ended) (first : Placed) : Type 0 where
+pub record RecoversHistory (image : Image) (new : Point) (ends : List Ended) (first : Placed) : Type 0 where
   pub begins : IsBeginning new
   pub history : IsHistory new ends first.point
-  pub left : WasLeft image first
+  pub left : Recovers image first

@@ -4,11 +4,11 @@ use Rattle.sqlite.specs.State.{HasCleanDisk}
 use Rattle.sqlite_trees.specs.declared.store.Store.{Ghosts}
 use Rattle.er_event.specs.declared.refusals.Refusal.{Refusal}
 use Rattle.er_event.specs.declared.refusals.Refusal.TheVariants.{NeedsReopen}
-use Rattle.er_store.specs.{Fault.IsFault, Layout.StandsAlone, Migrated.IsTaken, Reading.KeepsTables, Representing.{Either, Leaves}}
+use Rattle.er_store.specs.{Fault.IsFault, Layout.StandsAlone, Migrated.IsTaken, Reading.KeepsTables, Representing.{Either, AfterCrash}}
 use Rattle.er_store.specs.{Tables.player_tree}
 use Rattle.er_desk.specs.declared.desk.Desk.{Desk}
-use Rattle.er_desk.specs.Desk.{DeskState, ShowsOwn, IsStoredAt, placed_at, placed_of, point_of, state, desk_state, version_in}
-use Rattle.er_desk.specs.Headline.{LeavesJust}
+use Rattle.er_desk.specs.Desk.{DeskState, HoldsOwnEvent, IsStoredAt, placed_at, placed_of, point_of, state, desk_state, version_in}
+use Rattle.er_desk.specs.Headline.{RecoversJust}
 
 -- the tables are of version 2, or stand alone in the file
 abbrev pub MayMigrate : {S : Type 0} (g : Ghosts S) → Desk S g → Type 0
@@ -28,17 +28,18 @@ pub record MovesDesk {S : Type 0} (g : Ghosts S) (old : Desk S g) (result : Resu
   pub turn : Migrates (desk_state old) result (desk_state new)
   pub waits : IsTrue (desk_state old).needs_reopen ⊎ (version_in old ≡ 2) → new ≡ old
   pub clean : HasCleanDisk (state g new) → HasCleanDisk (state g old)
-  pub represents : MayMigrate g old → HasCleanDisk (state g new) → ShowsOwn g old → IsFalse (desk_state new).needs_reopen → ShowsOwn g new
+  pub represents : MayMigrate g old → HasCleanDisk (state g new) → HoldsOwnEvent g old → IsFalse (desk_state new).needs_reopen
+      → HoldsOwnEvent g new
   -- a refusal changes no table, whatever the tables hold
   pub kept : HasCleanDisk (state g new) → OnErr result (KeepsTables (state g old) (state g new))
   -- it is refused where the name `player2` is taken, and a crash then leaves version 1
   pub taken : IsFalse (desk_state old).needs_reopen → version_in old ≡ 1 → HasCleanDisk (state g new) → IsTaken (state g old).now
-      → IsErr result × (ShowsOwn g old → LeavesJust (state g new) (placed_of (desk_state old)))
+      → IsErr result × (HoldsOwnEvent g old → RecoversJust (state g new) (placed_of (desk_state old)))
   -- with `Ok` each thing that a crash may leave is of version 2, and `player` has no rows
-  pub acknowledged : MayMigrate g old → ShowsOwn g old
-      → OnOk result (LeavesJust (state g new) (placed_at (point_of (desk_state old)) 2))
-  pub emptied : MayMigrate g old → HasCleanDisk (state g new) → ShowsOwn g old → version_in old ≡ 1
+  pub acknowledged : MayMigrate g old → HoldsOwnEvent g old
+      → OnOk result (RecoversJust (state g new) (placed_at (point_of (desk_state old)) 2))
+  pub emptied : MayMigrate g old → HasCleanDisk (state g new) → HoldsOwnEvent g old → version_in old ≡ 1
       → OnOk result ((state g new).now.trees player_tree ≡ [])
   -- at every exit it is the event and its serial, whole in the version that they were in or whole in version 2
-  pub crash : MayMigrate g old → ShowsOwn g old
-      → Leaves (state g new) (Either (IsStoredAt (placed_of (desk_state old))) (IsStoredAt (placed_at (point_of (desk_state old)) 2)))
+  pub crash : MayMigrate g old → HoldsOwnEvent g old
+      → AfterCrash (state g new) (Either (IsStoredAt (placed_of (desk_state old))) (IsStoredAt (placed_at (point_of (desk_state old)) 2)))

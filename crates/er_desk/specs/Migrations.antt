@@ -26,12 +26,12 @@ command_in (Some Migrates) = None
 
 -- what one desk was asked: what was acknowledged, and what the store failed in, or the program was stopped in
 pub record MovingSession : Type 0 where
-  pub kept : List Request
-  pub doubt : Option Request
+  pub acknowledged : List Request
+  pub in_doubt : Option Request
 
 -- its commands alone
 abbrev pub passed_over : MovingSession → Session
-passed_over s = record { kept = commands_in s.kept; doubt = command_in s.doubt }
+passed_over s = record { acknowledged = commands_in s.acknowledged; in_doubt = command_in s.in_doubt }
 
 -- A migration leads to version 2, and nothing leads back.
 abbrev pub version_after : ℕ → List Request → ℕ
@@ -42,7 +42,8 @@ version_after version (Migrates ∷ more) = version_after 2 more
 -- the session ends where its commands lead; a migration in doubt may have been done
 pub record MayEndIn (first : Placed) (session : MovingSession) (last : Placed) : Type 0 where
   pub point : MayEnd first.point (passed_over session) last.point
-  pub version : (last.version ≡ version_after first.version session.kept) ⊎ ((session.doubt ≡ Some Migrates) × (last.version ≡ 2))
+  pub version : (last.version ≡ version_after first.version session.acknowledged)
+      ⊎ ((session.in_doubt ≡ Some Migrates) × (last.version ≡ 2))
 
 -- a session, and where the next one begins
 pub record MovingEnded : Type 0 where

@@ -31,11 +31,11 @@ use Rattle.er_event.specs.Parts.{parts_of}
 use Rattle.er_event.specs.Rows.{tally_rows}
 use Rattle.er_event.specs.Sound.{IsSoundButForSeeds}
 use Rattle.er_rules.specs.Sound.{HasSeeds}
-use Rattle.er_store.specs.Fault.{refusal_of}
+use Rattle.er_store.specs.Fault.{store_refusal}
 use Rattle.er_store.specs.Damage.{ReadsParts, ReadsTallies, IsAtFault, IfDamaged}
-use Rattle.er_store.specs.Beside.{IsStoredBeside, ShowsBeside}
+use Rattle.er_store.specs.Beside.{IsStoredBeside, HoldsBeside}
 use Rattle.er_store.specs.Reading.{KeepsTables}
-use Rattle.er_store.specs.Representing.{CanRead, Either, IsStoredIn, Leaves, ReadsEvent}
+use Rattle.er_store.specs.Representing.{CanRead, Either, IsStoredIn, AfterCrash, ReadsEvent}
 use Rattle.er_desk.specs.declared.desk.Desk.{Desk}
 use Rattle.er_desk.specs.Desk.{Point, state}
 use Rattle.er_desk.specs.Headline.{IsEmptyFile}
@@ -59,41 +59,41 @@ pub record NamesFirstFault (db : Database) (why : Refusal) : Type 0 where
   pub first : IfDamaged (IsFirstAtFault db) why
 
 -- what is seen of the file then: by the desk, or by the connection that comes back
-abbrev pub seen : {S : Type 0} (g : store.Ghosts S) → Result (Desk S g) (Held S × Refusal) → State
-seen g (Ok desk) = state g desk
-seen g (Err back) = sqlite.state g back.0
+abbrev pub connection_state : {S : Type 0} (g : store.Ghosts S) → Result (Desk S g) (Held S × Refusal) → State
+connection_state g (Ok desk) = state g desk
+connection_state g (Err back) = sqlite.state g back.0
 
 -- The tables were read, and nothing else. None changes, and a crash leaves what it could before: the last commit, while the file
 -- was open.
-pub record LeavesAll (old new : State) : Type 0 where
+pub record ChangesNothing (old new : State) : Type 0 where
   pub clean : HasCleanDisk new → HasCleanDisk old
   pub kept : HasCleanDisk new → KeepsTables old new
-  pub crash : Leaves new old.may_leave
-  pub left : IsTrue old.is_open → Leaves new (λ db. db ≡ old.committed.trees)
+  pub crash : AfterCrash new old.may_leave
+  pub left : IsTrue old.is_open → AfterCrash new (λ db. db ≡ old.committed.trees)
 
 -- An event was not made. No table changes. Where one can be read, a crash leaves what it could before; in an empty file that, or the
 -- new event whole; in any other file what was there, or that with the event's tables beside it.
 pub record MakesNothing (new_event : Point) (old new : State) : Type 0 where
   pub kept : HasCleanDisk new → KeepsTables old new
-  pub spares : CanRead old.now.schema → Leaves new old.may_leave
-  pub crash : IsEmptyFile old → Leaves new (Either old.may_leave (IsStoredIn 2 new_event.event new_event.serial))
+  pub spares : CanRead old.now.schema → AfterCrash new old.may_leave
+  pub crash : IsEmptyFile old → AfterCrash new (Either old.may_leave (IsStoredIn 2 new_event.event new_event.serial))
   pub left : IsEmptyFile old → IsTrue old.is_open
-      → Leaves new (Either (λ db. db ≡ old.committed.trees) (IsStoredIn 2 new_event.event new_event.serial))
-  pub beside : IsTrue old.is_open → Leaves new (Either (λ db. db ≡ old.committed.trees) (IsStoredBeside 2 new_event.event old.now))
+      → AfterCrash new (Either (λ db. db ≡ old.committed.trees) (IsStoredIn 2 new_event.event new_event.serial))
+  pub beside : IsTrue old.is_open → AfterCrash new (Either (λ db. db ≡ old.committed.trees) (IsStoredBeside 2 new_event.event old.now))
 
 -- An event was made beside what the file held, whatever that was.
 pub record MakesOver (new_event : Point) (held : Trees) (s : State) : Type 0 where
   pub old : Database
   pub is : old.trees ≡ held
   pub sound : IsDatabase old
-  pub shows : ShowsBeside 2 new_event.event old s
+  pub shows : HoldsBeside 2 new_event.event old s
 
 -- and what a crash leaves then: what it held, or that with the event's tables beside it
-pub record LeavesOver (new_event : Point) (held : Trees) (s : State) : Type 0 where
+pub record RecoversBeside (new_event : Point) (held : Trees) (s : State) : Type 0 where
   pub old : Database
   pub is : old.trees ≡ held
   pub sound : IsDatabase old
-  pub leaves : Leaves s (Either (λ db. db ≡ held) (IsStoredBeside 2 new_event.event old))
+  pub leaves : AfterCrash s (Either (λ db. db ≡ held) (IsStoredBeside 2 new_event.event old))
 
 -- The first fault of what an opening finds in the file. A connection that comes back open shows just that.
 abbrev pub NamesFirstFaultIn : Image → State → Refusal → Type 0
@@ -109,8 +109,8 @@ abbrev pub ListsNothing : Trees → Type 0
 ListsNothing db = db catalog_tree ≡ []
 
 -- while the connection stays open, it sees these trees, and nothing is pending
-abbrev pub SeesStill : State → Trees → Type 0
-SeesStill s db = HasCleanDisk s → IsTrue s.is_open → (s.now.trees ≡ db) × (s.now ≡ s.committed)
+abbrev pub HoldsStill : State → Trees → Type 0
+HoldsStill s db = HasCleanDisk s → IsTrue s.is_open → (s.now.trees ≡ db) × (s.now ≡ s.committed)
 
 -- What the storage crate says of files that it did not open. Nothing is left of them only where they can't be had, by the
 -- system, for want of memory, or since another program holds them. What is left represents what the files held, and they are why.
@@ -123,7 +123,7 @@ IsSpared {S} {g} {first} error (Some left) =
 
 module _ {D : Type 0} {g : Ghosts D} where
   abbrev pub why_of : OpenFault D g → Refusal
-  why_of (Unopened error left) = refusal_of error
+  why_of (Unopened error left) = store_refusal error
   why_of (Refused conn refusal) = refusal
 
   -- of the connection, where one comes back

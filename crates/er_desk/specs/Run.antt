@@ -10,22 +10,22 @@ use Rattle.er_event.specs.Event.{EventValue}
 use Rattle.er_rules.specs.Step.{Steps}
 use Rattle.er_store.specs.Fault.{IsFault}
 use Rattle.er_rules.specs.Fold.{Folds}
-use Rattle.er_desk.specs.Reply.{Reply, IsLawful}
-use Rattle.er_desk.specs.Desk.{Point, Placed, DeskState, Turn, IsStoredAt, placed_at}
+use Rattle.er_desk.specs.Reply.{Reply, IsLawfulReply}
+use Rattle.er_desk.specs.Desk.{Point, Placed, DeskState, Outcome, IsStoredAt, placed_at}
 
 -- the replies to commands one after the other
 abbrev pub Runs : DeskState → List Command → List Reply → DeskState → Type 0
 Runs old [] [] new = new ≡ old
-Runs old (command ∷ commands) (reply ∷ replies) new = (mid : DeskState) × Turn old command reply mid × Runs mid commands replies new
+Runs old (command ∷ commands) (reply ∷ replies) new = (mid : DeskState) × Outcome old command reply mid × Runs mid commands replies new
 Runs old [] (reply ∷ replies) new = ⊥
 Runs old (command ∷ commands) [] new = ⊥
 
 -- the commands that got a receipt
-abbrev pub acknowledged : List Command → List Reply → List Command
-acknowledged (command ∷ commands) (Ok receipt ∷ replies) = command ∷ acknowledged commands replies
-acknowledged (command ∷ commands) (Err why ∷ replies) = acknowledged commands replies
-acknowledged [] replies = []
-acknowledged (command ∷ commands) [] = []
+abbrev pub acknowledged_commands : List Command → List Reply → List Command
+acknowledged_commands (command ∷ commands) (Ok receipt ∷ replies) = command ∷ acknowledged_commands commands replies
+acknowledged_commands (command ∷ commands) (Err why ∷ replies) = acknowledged_commands commands replies
+acknowledged_commands [] replies = []
+acknowledged_commands (command ∷ commands) [] = []
 
 -- the store had a fault in the command of this place, and the later ones were answered that the file wants to be opened anew
 abbrev pub FailsAt : List Reply → ℕ → Type 0
@@ -38,11 +38,11 @@ FailsAt replies k =
 pub record IsRun (old : DeskState) (commands : List Command) (replies : List Reply) (new : DeskState) : Type 0 where
   pub all : length replies ≡ length commands
   pub each : (k : ℕ) (command : Command) (reply : Reply) → slice_get commands k ≡ Some command → slice_get replies k ≡ Some reply
-      → (mid : EventValue) × Folds old.event (acknowledged (take k commands) (take k replies)) mid
-      × (IsLawful old.version mid (old.serial + length (acknowledged (take k commands) (take k replies))) command reply
+      → (mid : EventValue) × Folds old.event (acknowledged_commands (take k commands) (take k replies)) mid
+      × (IsLawfulReply old.version mid (old.serial + length (acknowledged_commands (take k commands) (take k replies))) command reply
       ⊎ ((reply ≡ Err NeedsReopen) × IsTrue new.needs_reopen))
-  pub event_is : Folds old.event (acknowledged commands replies) new.event
-  pub serial_is : new.serial ≡ old.serial + length (acknowledged commands replies)
+  pub event_is : Folds old.event (acknowledged_commands commands replies) new.event
+  pub serial_is : new.serial ≡ old.serial + length (acknowledged_commands commands replies)
   pub version_is : new.version ≡ old.version
   -- the desk is stopped where it was before, or by a fault of the store in one of the commands
   pub stopped_by : IsTrue new.needs_reopen → IsTrue old.needs_reopen ⊎ ((k : ℕ) × FailsAt replies k)
@@ -55,13 +55,13 @@ pub record IsRun (old : DeskState) (commands : List Command) (replies : List Rep
 -- what one desk was asked
 pub record Session : Type 0 where
   -- the commands that were acknowledged
-  pub kept : List Command
+  pub acknowledged : List Command
   -- the one that the store failed in, or the program was stopped in
-  pub doubt : Option Command
+  pub in_doubt : Option Command
 
 -- in which nothing was asked
 abbrev pub no_session : Session
-no_session = record { kept = []; doubt = None }
+no_session = record { acknowledged = []; in_doubt = None }
 
 -- the last command that was tried
 abbrev pub tried_or : Option Command → Command → Reply → Option Command
@@ -77,26 +77,26 @@ last_tried (command ∷ commands) [] = None
 -- the session of a run: where the store has failed, it failed in the last command that was tried
 abbrev pub session_of : List Command → List Reply → Bool → Session
 session_of commands replies needs_reopen = record {
-  kept = acknowledged commands replies;
-  doubt = if needs_reopen then last_tried commands replies else None;
+  acknowledged = acknowledged_commands commands replies;
+  in_doubt = if needs_reopen then last_tried commands replies else None;
 }
 
 -- the session ends after what was acknowledged
-pub record EndsAfterKept (first : Point) (session : Session) (last : Point) : Type 0 where
-  pub event : Folds first.event session.kept last.event
-  pub serial : last.serial ≡ first.serial + length session.kept
+pub record EndsAfterAcknowledged (first : Point) (session : Session) (last : Point) : Type 0 where
+  pub event : Folds first.event session.acknowledged last.event
+  pub serial : last.serial ≡ first.serial + length session.acknowledged
   -- only a command that the step takes is in doubt, since only then is the file written
-  pub taken : IfSome session.doubt (λ doubt. (next : EventValue) × Steps last.event doubt (Ok next))
+  pub taken : IfSome session.in_doubt (λ doubt. (next : EventValue) × Steps last.event doubt (Ok next))
 
 -- or with its doubt too
 pub record EndsWithDoubt (first : Point) (session : Session) (last : Point) (doubt : Command) : Type 0 where
   pub mid : Point
-  pub kept : EndsAfterKept first session mid
+  pub kept : EndsAfterAcknowledged first session mid
   pub event : Steps mid.event doubt (Ok last.event)
   pub serial : last.serial ≡ mid.serial + 1
 
 abbrev pub MayEnd : Point → Session → Point → Type 0
-MayEnd first session last = EndsAfterKept first session last ⊎ MatchOption session.doubt ⊥ (EndsWithDoubt first session last)
+MayEnd first session last = EndsAfterAcknowledged first session last ⊎ MatchOption session.in_doubt ⊥ (EndsWithDoubt first session last)
 
 -- what a crash leaves represents one of the session's ends, whole, in the same version
 abbrev pub IsStoredEnd : Placed → Session → Trees → Type 0

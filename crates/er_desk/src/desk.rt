@@ -67,9 +67,9 @@ impl<S: Alter> Desk<S> {
     ghost use Rattle.er_store.specs.Store as tables;
     ghost use Rattle.er_store.specs.{Slip.FindsSlipOrFails, Calls.OrFails};
     ghost use Rattle.er_desk.specs.{Looking.{ReadsTables, FindsOwn}, Begins.{CreatesDesk, AdoptsDesk}};
-    ghost use Rattle.er_desk.specs.Desk.{IfRunning, ShowsOwn, placed_of, state, desk_state, version_in};
+    ghost use Rattle.er_desk.specs.Desk.{IfRunning, HoldsOwnEvent, placed_of, state, desk_state, version_in};
     ghost use Rattle.er_desk.specs.Run.{Runs, IsRun, session_of};
-    ghost use Rattle.er_desk.specs.Headline.{LeavesJust, RepeatsNobody, AreTheStandings};
+    ghost use Rattle.er_desk.specs.Headline.{RecoversJust, RepeatsNobody, AreTheStandings};
     ghost use Rattle.er_desk.specs.Run.{no_session};
     ghost use Rattle.er_desk.specs.Asking.{Asks, AsksThen, Submits};
     ghost use Rattle.er_desk.specs.Migrating.{MovesDesk};
@@ -241,8 +241,8 @@ impl<S: Alter> Desk<S> {
         ensures same { result ≡ tables.connection self.store }
         ensures mode { result.in_transaction ≡ false }
         // Where the tables represent the event, a crash leaves just that.
-        ensures left { ShowsOwn S.Store self
-            → LeavesJust (state S.Store self) (placed_of (desk_state self)) }
+        ensures left { HoldsOwnEvent S.Store self
+            → RecoversJust (state S.Store self) (placed_of (desk_state self)) }
     {
         // What the tables represent, a crash leaves: this tells the proof.
         shown_is_stored(&self.store);

@@ -15,11 +15,12 @@ use std::alloc::Global;
 pub fn read_standings<S: Alter>(alloc: Global, store: &mut Store<S>) -> Result<Vec<Row>, Refusal>
     requires running { IsFalse (tables.needs_reopen store.old) }
     ensures reads { OnlyReads S.Store (StopsUnless Refusal.Memory) store.old result store.new }
-    ensures found { Finds S.Store (RepresentsIn (tables.version_in store.old))
+    ensures found { Finds S.Store (RepresentsIn (tables.store_version store.old))
         (λ e s. OrFails (λ rows. AreTheStandings e rows.items)) store.old result store.new }
-    ensures same { HasCleanDisk (tables.state S.Store store.new)
+    ensures same { HasCleanDisk (tables.store_state S.Store store.new)
         → IsFalse (tables.needs_reopen store.new)
-        → IsUnchanged (tables.state S.Store store.old) (tables.state S.Store store.new) }
+        → IsUnchanged (tables.store_state S.Store store.old)
+        (tables.store_state S.Store store.new) }
 {
     let tallies = store.tallies(alloc)?;
     let meetings = store.meetings(alloc)?;

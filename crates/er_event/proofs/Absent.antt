@@ -4,7 +4,7 @@ use Rattle.er_event.proofs.Prelude.{[], arith, false, get_or, length, length-app
 use Rattle.er_event.proofs.Prelude.{ℕ, ◌&&◌, ◌++◌, ◌+◌, ◌==◌, ◌∷◌, ◌≡◌, ◌≢◌, ◌≤◌, nat_tests, common_steps, range_with_len}
 use Rattle.er_event.proofs.Prelude.{get_or-range_with_len, length-range_with_len, All-weaker}
 use Rattle.std.proofs.{Common.nat_le, lemmas.Bool.cond_both, lemmas.List.take-append-le}
-use Rattle.er_event.specs.inside.Reading.{is_absent, has_missed}
+use Rattle.er_event.specs.inside.Reading.{is_absent, is_absent_from_missed}
 use Rattle.er_event.proofs.RoundLemmas.{All-of, of-All}
 
 -- ---- the tests
@@ -38,22 +38,22 @@ tested-All player rs is = λ k d below. absent-All player (get_or rs k d).matche
 All-tested : (player : ℕ) (rs : List Round) → All (Away player) rs → list_all (Tested player) rs ≡ true
 All-tested player rs away = of-All (Tested player) rs (λ k d below. All-absent player (get_or rs k d).matches (away k d below))
 
-missed-of : (rs : List Round) (p : Player) → has_missed rs p ≡ true → HasMissed rs p
+missed-of : (rs : List Round) (p : Player) → is_absent_from_missed rs p ≡ true → HasMissed rs p
 missed-of rs p is =
     let both : (nat_le p.joined (length rs) ≡ true) × (list_all (Tested p.no) (take p.joined rs) ≡ true) = grind arith in
     record { stored = grind (arith, nat_tests); absent = tested-All p.no (take p.joined rs) both.1 }
 
-of-missed : (rs : List Round) (p : Player) → HasMissed rs p → has_missed rs p ≡ true
+of-missed : (rs : List Round) (p : Player) → HasMissed rs p → is_absent_from_missed rs p ≡ true
 of-missed rs p h =
     let within : nat_le p.joined (length rs) ≡ true = grind (arith, nat_tests, h.stored) in
     let tested = All-tested p.no (take p.joined rs) h.absent in
     grind arith
 
-pub have-missed : (rs : List Round) (ps : List Player) → list_all (has_missed rs) ps ≡ true → All (HasMissed rs) ps
-have-missed rs ps is = λ k d below. missed-of rs (get_or ps k d) (All-of (has_missed rs) ps is k d below)
+pub have-missed : (rs : List Round) (ps : List Player) → list_all (is_absent_from_missed rs) ps ≡ true → All (HasMissed rs) ps
+have-missed rs ps is = λ k d below. missed-of rs (get_or ps k d) (All-of (is_absent_from_missed rs) ps is k d below)
 
-pub missed-have : (rs : List Round) (ps : List Player) → All (HasMissed rs) ps → list_all (has_missed rs) ps ≡ true
-missed-have rs ps h = of-All (has_missed rs) ps (λ k d below. of-missed rs (get_or ps k d) (h k d below))
+pub missed-have : (rs : List Round) (ps : List Player) → All (HasMissed rs) ps → list_all (is_absent_from_missed rs) ps ≡ true
+missed-have rs ps h = of-All (is_absent_from_missed rs) ps (λ k d below. of-missed rs (get_or ps k d) (h k d below))
 
 -- ---- one round more
 

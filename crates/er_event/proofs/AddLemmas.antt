@@ -1,5 +1,5 @@
 -- An event with one more round is sound exactly where its checks hold.
-use Rattle.er_event.proofs.Prelude.{with_round, EventValue, is_counted, is_same_pairing, matches_of, seats, AreRounds, IsRound}
+use Rattle.er_event.proofs.Prelude.{with_round, EventValue, is_complete, is_same_pairing, matches_of, seats, AreRounds, IsRound}
 use Rattle.er_event.proofs.Prelude.{IsSoundButForSeeds, numbers, Phase, Enrolling, Swiss, Match, Round, MayFollow, All, AllPairs, Bool}
 use Rattle.er_event.proofs.Prelude.{IsFalse, IsTrue, List, [], ap, arith, false, flat_map, get_or, length, length-append, not, refl, subst}
 use Rattle.er_event.proofs.Prelude.{sym, take, true, true≢false, ℕ, ◌++◌, ◌+◌, ◌-◌, ◌<◌, ◌||◌, ◌∙◌, ◌∷◌, ◌≡◌, ◌≢◌, nat_tests, common_steps}
@@ -64,7 +64,7 @@ take-before : (rs : List Round) (r : Round) → take (length (rs ++ r ∷ []) - 
 take-before rs r = take_at rs (r ∷ []) _ (let count = length-append rs (r ∷ []) in omega arith)
 
 abbrev Counted : Round → Type 0
-Counted r = IsTrue (is_counted r.matches)
+Counted r = IsTrue (is_complete r.matches)
 
 module _ (known : List ℕ) (rs : List Round) (ms : List Match) where
   abbrev r : Round

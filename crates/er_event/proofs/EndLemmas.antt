@@ -1,5 +1,6 @@
 -- A stage that is read with a new score, and when it may be the last.
-use Rattle.er_event.proofs.Prelude.{FollowOn, is_over, slot_at, slot_in, IsEnd, one_more, scored, scored_slot, stage_of, with_bracket_score}
+use Rattle.er_event.proofs.Prelude.{FollowOn, is_over, slot_at, slot_in, IsEnd, one_more, match_with_score, scored_slot, stage_of}
+use Rattle.er_event.proofs.Prelude.{with_bracket_score}
 use Rattle.er_event.proofs.Prelude.{EventValue, IsSoundButForSeeds, Phase, Finished, Match, Games, All, Bool, Bor, List, None, Option, Some}
 use Rattle.er_event.proofs.Prelude.{[], ap, arith, cond, drop, false, get_or, is_some, length, option_map, suc, take, true, zero, ℕ, ◌++◌}
 use Rattle.er_event.proofs.Prelude.{◌-◌, ◌<◌, ◌↔◌, ◌∙◌, ◌∷◌, ◌≡◌, ◌≤◌, set, common_steps, All-from_recursion, recursion_from_All, drop_all}
@@ -84,7 +85,8 @@ module _ (e : EventValue) (stage slot : ℕ) (m : Match) (is : slot_at e stage s
       pub slot-within : j - 1 < length x
       slot-within = let within = slice_get_within old (slot - 1) m f.here in let count = ap length stage-is in omega arith
 
-      pub slot-set : (score : Games) (new : List Match) → new ≡ set x (j - 1) (scored score m) → new ≡ new_stage e stage slot score m is h
+      pub slot-set : (score : Games) (new : List Match) → new ≡ set x (j - 1) (match_with_score score m)
+          → new ≡ new_stage e stage slot score m is h
       slot-set score new written = grind (arith, common_steps, set, stage-is, new_stage-is)
 
 pub beq-same : (a b : Bool) → beq a b ≡ true → a ≡ b

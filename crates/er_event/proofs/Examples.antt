@@ -1,12 +1,13 @@
 -- Examples of the definitions, which compute, and the limits as the rules have them.
 use Rattle.er_event.proofs.Prelude.{MAX_PLAYERS, MAX_SERIAL, Swiss, Player, Match, PairingRow, BracketRow, Games, open_match, with_player}
-use Rattle.er_event.proofs.Prelude.{with_dropped, with_score, EventValue, Appearance, is_lawful_name, is_counted, match_at, is_swiss_score}
+use Rattle.er_event.proofs.Prelude.{with_dropped, with_score, EventValue, RoundResult, is_lawful_name, is_complete, match_at}
+use Rattle.er_event.proofs.Prelude.{is_swiss_score}
 use Rattle.er_event.proofs.Prelude.{is_playoff_score, totals, totals_of, with_round, SetScore}
-use Rattle.er_event.specs.{declared.changes.Change.Change, declared.totals.Totals.Totals, Appearances.own_appearances}
+use Rattle.er_event.specs.{declared.changes.Change.Change, declared.totals.Totals.Totals, Results.{missed_rounds, results_of}}
 use Rattle.er_event.specs.{Recounted.is_recounted}
 use Rattle.std.specs.{Prelude.{◌≡◌, ℕ, pos, Bool, true, false, List, [], ◌∷◌, ◌++◌, map, replicate, codes, Some, None, refl}, Str.is_utf8}
 use Rattle.std.specs.Str.{chars}
-use Rattle.er_event.specs.{declared.rows.player.PlayerRow.PlayerRow, inside.Reading.has_missed}
+use Rattle.er_event.specs.{declared.rows.player.PlayerRow.PlayerRow, inside.Reading.is_absent_from_missed}
 use Rattle.er_event.specs.Rows.{player_rows, keyed_pairing_rows, bracket_rows, event_row, pairing_rows}
 use Rattle.er_share.specs.declared.TheConstants.{MAX_ROUNDS}
 use Rattle.er_event.specs.declared.rows.event.TheConstants.{MOST_OLD_ROUNDS}
@@ -224,7 +225,7 @@ with_another_score = refl
 pub the_bye_again : with_score paired 1 0 (games 2 0 0) ≡ paired
 the_bye_again = refl
 
-pub complete : is_counted first_round ∷ is_counted (played 2 1 2 0 0 ∷ played 3 0 2 0 0 ∷ []) ∷ [] ≡ false ∷ true ∷ []
+pub complete : is_complete first_round ∷ is_complete (played 2 1 2 0 0 ∷ played 3 0 2 0 0 ∷ []) ∷ [] ≡ false ∷ true ∷ []
 complete = refl
 
 -- one who comes after a round was paired has missed it
@@ -244,23 +245,34 @@ one_player_dropped = refl
 
 -- ---- totals
 
-abbrev appearance : ℕ → ℕ → ℕ → ℕ → Appearance
-appearance opponent won lost drawn = record { round = 1; player = 1; opponent = opponent; games = Some (games won lost drawn) }
+abbrev against : ℕ → ℕ → ℕ → ℕ → ℕ → RoundResult
+against opponent round won lost drawn = record { round = round; opponent = Some opponent; won = won; lost = lost; drawn = drawn }
 
-pub two_matches : totals_of (appearance 2 2 1 0 ∷ appearance 3 1 1 1 ∷ []) ≡ record { points = 4; rounds = 2; game_points = 10; games = 6 }
+abbrev bye_in : ℕ → RoundResult
+bye_in round = record { round = round; opponent = None; won = 2; lost = 0; drawn = 0 }
+
+abbrev sum : ℕ → ℕ → ℕ → ℕ → Totals
+sum points rounds game_points games = record { points = points; rounds = rounds; game_points = game_points; games = games }
+
+pub two_matches : totals_of (against 2 1 2 1 0 ∷ against 3 1 1 1 1 ∷ []) ≡ sum 4 2 10 6
 two_matches = refl
 
--- a round that was missed counts, and earns nothing; no games at all are a draw
-pub missed_round : totals_of (record { round = 1; player = 1; opponent = 0; games = None } ∷ []) ≡ record {
-  points = 0;
-  rounds = 1;
-  game_points = 0;
-  games = 0;
-}
-missed_round = refl
-
-pub no_games : totals_of (appearance 2 0 0 0 ∷ []) ≡ record { points = 1; rounds = 1; game_points = 0; games = 0 }
+-- no games at all are a draw
+pub no_games : totals_of (against 2 1 0 0 0 ∷ []) ≡ sum 1 1 0 0
 no_games = refl
+
+-- the first-named player's games come first, and the other's are turned; a round that isn't complete gives no results
+abbrev in_third_round : EventValue
+in_third_round = event_of three
+    ((played 2 1 2 1 0 ∷ played 3 0 2 0 0 ∷ [])
+    ∷ (played 1 3 0 1 2 ∷ played 2 0 2 0 0 ∷ [])
+    ∷ (open_match 2 3 ∷ played 1 0 2 0 0 ∷ []) ∷ []) []
+
+pub results_of_two_rounds : map (results_of in_third_round) (1 ∷ 2 ∷ 3 ∷ [])
+    ≡ (against 2 1 1 2 0 ∷ against 3 2 0 1 2 ∷ [])
+    ∷ (against 1 1 2 1 0 ∷ bye_in 2 ∷ [])
+    ∷ (bye_in 1 ∷ against 1 2 1 0 2 ∷ []) ∷ []
+results_of_two_rounds = refl
 
 -- ---- a late entry
 
@@ -277,9 +289,6 @@ one_more_who_is_late = refl
 pub row_of_a_late_player : map (λ (r : PlayerRow). r.joined) (player_rows five) ≡ pos 0 ∷ pos 0 ∷ pos 0 ∷ pos 0 ∷ pos 1 ∷ []
 row_of_a_late_player = refl
 
-abbrev sum : ℕ → ℕ → ℕ → ℕ → Totals
-sum points rounds game_points games = record { points = points; rounds = rounds; game_points = game_points; games = games }
-
 pub missed_while_open : totals five 5 ≡ sum 0 0 0 0
 missed_while_open = refl
 
@@ -293,11 +302,19 @@ pub missed_once_complete : map (totals over) (1 ∷ 2 ∷ 3 ∷ 4 ∷ 5 ∷ 6 �
     ≡ sum 3 1 6 3 ∷ sum 0 1 0 2 ∷ sum 0 1 3 3 ∷ sum 3 1 6 2 ∷ sum 0 1 0 0 ∷ sum 0 0 0 0 ∷ []
 missed_once_complete = refl
 
-pub the_missed_appearance : own_appearances over 5 ≡ record { round = 1; player = 5; opponent = 0; games = None } ∷ []
-the_missed_appearance = refl
+-- a round that was missed is no result: it counts as a round, and earns nothing
+pub missed_round : (results_of over 5 ≡ []) × (missed_rounds over 5 ≡ 1) × (totals over 5 ≡ sum 0 1 0 0)
+missed_round = (refl, refl, refl)
+
+-- a bye is a result, and no round that was missed
+abbrev with_bye : EventValue
+with_bye = event_of three ((played 2 1 2 0 0 ∷ played 3 0 2 0 0 ∷ []) ∷ []) []
+
+pub bye : (results_of with_bye 3 ≡ bye_in 1 ∷ []) × (missed_rounds with_bye 3 ≡ 0) × (totals with_bye 3 ≡ sum 3 1 6 2)
+bye = (refl, refl, refl)
 
 -- who sat in the first round can't have missed it, and nobody has missed a second one
-pub who_missed_a_round : map (has_missed over.stored) (late 2 (codes "Bo") 1 ∷ late 5 (codes "Ed") 1 ∷ late 5 (codes "Ed") 2 ∷ [])
+pub who_missed_a_round : map (is_absent_from_missed over.stored) (late 2 (codes "Bo") 1 ∷ late 5 (codes "Ed") 1 ∷ late 5 (codes "Ed") 2 ∷ [])
     ≡ false ∷ true ∷ false ∷ []
 who_missed_a_round = refl
 

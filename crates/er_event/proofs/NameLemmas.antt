@@ -4,7 +4,7 @@ use Rattle.er_event.proofs.Prelude.{true, true≢false, ℕ, ◌++◌, ◌-◌, 
 use Rattle.er_event.proofs.Prelude.{IsUtf8}
 use Rattle.std.proofs.{Common.{Err, Ok, IsOk, replicate, slice_index_or}, lemmas.List.drop-replicate, lemmas.Str.IsUtf8-from_is_utf8}
 use Rattle.std.proofs.lemmas.Str.{is_utf8-from_IsUtf8}
-use Rattle.er_event.specs.Name.{is_plain_byte, padded}
+use Rattle.er_event.specs.Name.{is_plain_byte, name_with_zeros}
 
 pub is_lawful_name-parts : (bs : List ℕ) → 0 < length bs → length bs ≤ 60 → IsUtf8 bs → list_all is_plain_byte bs ≡ true
     → (slice_index_or bs 0 0 == 32 || slice_index_or bs (length bs - 1) 0 == 32) ≡ false → IsTrue (is_lawful_name bs)
@@ -22,10 +22,10 @@ is_ok-when P Q U (Err e) h = (λ ok. absurd (true≢false (sym ok)), λ u. absur
 -- zeros in whose first places a lawful name was put are the name with zeros behind it
 pub IsStored-name : (name copied : List ℕ) → copied ≡ name → IsTrue (is_lawful_name name)
     → let bytes = copied ++ drop (length name) (replicate 60 0) in
-    (bytes ≡ padded (take (length name) bytes)) × (length (take (length name) bytes) ≡ length name)
+    (bytes ≡ name_with_zeros (take (length name) bytes)) × (length (take (length name) bytes) ≡ length name)
     × IsTrue (is_lawful_name (take (length name) bytes))
 IsStored-name name copied same lawful =
     let zeros = drop (length name) (replicate 60 0) in
     let first : take (length name) (copied ++ zeros) ≡ name = grind (arith, common_steps) in
-    let behind : copied ++ zeros ≡ padded name = rw same (ap (λ zs. name ++ zs) (drop-replicate (length name) 60 0)) in
-    (behind ∙ ap padded (sym first), ap length first, rw first lawful)
+    let behind : copied ++ zeros ≡ name_with_zeros name = rw same (ap (λ zs. name ++ zs) (drop-replicate (length name) 60 0)) in
+    (behind ∙ ap name_with_zeros (sym first), ap length first, rw first lawful)

@@ -1,21 +1,24 @@
 -- What the rounds of all players come to, by the seats of each round.
-use Rattle.er_event.proofs.Prelude.{counted_appearances, appearances_from, appearances_of_match, own, totals_of, IsAbsent, Match, Round}
+use Rattle.er_event.proofs.Prelude.{rounds_missed_of, results_from, complete_results, results_of_match, totals_of, totals_of_games}
+use Rattle.er_event.proofs.Prelude.{IsAbsent}
+use Rattle.er_event.proofs.Prelude.{Match, Round}
 use Rattle.er_event.proofs.Prelude.{Games, AreOver, IsSeatedOnce, All}
 use Rattle.er_event.proofs.Prelude.{List, None, Option, Some, [], arith, flat_map, get_or, length, refl, seats, set, suc, sym, take, zero}
 use Rattle.er_event.proofs.Prelude.{ℕ}
 use Rattle.er_event.proofs.Prelude.{◌+◌, ◌<◌, ◌==◌, ◌∙◌, ◌∷◌, ◌≡◌, ◌≢◌, ◌≤◌, ◌⊎◌, ap, subst, inl, inr, true, false, get_or_default}
 use Rattle.er_event.proofs.Prelude.{nat_tests, none-some, same_Some}
-use Rattle.er_event.proofs.Prelude.{All-cons, IfSome, IsSoundButForSeeds, EventValue, open_match, scored, scored_slot, ◌++◌, length-append}
+use Rattle.er_event.proofs.Prelude.{All-cons, IfSome, IsSoundButForSeeds, EventValue, open_match, match_with_score, scored_slot, ◌++◌}
+use Rattle.er_event.proofs.Prelude.{length-append}
 use Rattle.er_event.proofs.Prelude.{Player, ap₂, totals, ◌-◌, length-set}
 use Rattle.std.proofs.{Common.min, lemmas.Bool.{cases_Bool, cases_eq, cases_lt, cond_both}, lemmas.List.{get_or-set_same, get_or-set_other}}
-use Rattle.er_event.specs.{Totals.{totals_of_games, plus, missed_totals, Gathered, gathered_of, AreTotals}, declared.totals.Totals.Totals}
+use Rattle.er_event.specs.{Totals.{plus, missed_totals, Gathered, gathered_of, AreTotals}, declared.totals.Totals.Totals}
 use Rattle.er_event.specs.{Change.{after, new_player}, declared.changes.Change.Change}
 use Rattle.er_event.specs.declared.changes.Change.TheVariants.{AddPlayer, AddRound, SetDropped, SetScore}
-use Rattle.er_event.specs.inside.{Joined.joined_of, Played.{with_new, ArePlayed, IsRescored, Rescores}, Seats.{sits_at, seat_of}}
+use Rattle.er_event.specs.inside.{Played.{with_new, ArePlayed, IsRescored, Rescores}, Seats.{sits_at, seat_of}}
 use Rattle.er_event.specs.inside.{Seen.AreSeen}
 use Rattle.er_event.proofs.{MissedLemmas.{Counted, complete, joined-at, joined-dropped, joined-others, totals-split, totals_of-append}}
 use Rattle.er_event.proofs.{PartsLemmas.number_at, SeatLemmas.{All-seats, seats-All, seats-set, sit-apart}}
-use Rattle.er_event.proofs.{SeatTables.no-seat, TotalLemmas.{absent_appearances, appearances_from-push, one_match, own-append, own-more}}
+use Rattle.er_event.proofs.{SeatTables.no-seat, TotalLemmas.{absent_results, one_match, results_from-more, results_from-push}}
 
 -- ---- the match that a number sits at
 
@@ -67,7 +70,7 @@ same-seats old m after h = seats-set m h.place old h.first h.second ∙ ap (flat
 
 seen-at : (ms : List Match) → IsSeatedOnce ms → (k : ℕ) (m : Match) (player : ℕ) → k < length ms → get_or ms k m ≡ m
     → (player ≡ m.a) ⊎ (player ≡ m.b) → (g : Option Games) → AreSeen m player g
-    → (round : ℕ) → totals_of (own player (flat_map (appearances_of_match round) ms)) ≡ totals_of_games g
+    → (round : ℕ) → totals_of (flat_map (results_of_match player round) ms) ≡ totals_of_games g
 seen-at ms once k m player below here sits None seen round = ap totals_of (one_match ms once k m player below (sym here) sits round
     ∙ seen round)
 seen-at ms once k m player below here sits (Some g) seen round =
@@ -88,15 +91,15 @@ module _ (old : List Match) (once : IsSeatedOnce old) (player : ℕ) where
       seats-All (λ s. s ≢ player) after (subst (All (λ s. s ≢ player)) (same-seats old m after h) (All-seats (λ s. s ≢ player) old away))
 
   pub unseen : seat_of old player ≡ None → (new : Option Match) (after : List Match) → IsRescored old new after
-      → (round : ℕ) → totals_of (own player (flat_map (appearances_of_match round) after)) ≡ totals_of_games None
-  unseen none None after is round = ap totals_of (absent_appearances player round after (rw is (lost player old none)))
-  unseen none (Some m) after is round = ap totals_of (absent_appearances player round after
+      → (round : ℕ) → totals_of (flat_map (results_of_match player round) after) ≡ totals_of_games None
+  unseen none None after is round = ap totals_of (absent_results player round after (rw is (lost player old none)))
+  unseen none (Some m) after is round = ap totals_of (absent_results player round after
       (absent-after m after (lost player old none) is))
 
   module _ (m : Match) (is : seat_of old player ≡ Some m) (g : Option Games) where
     -- of the match as it was
     pub seen-old : AreSeen m player g → (new : Option Match) → ((s : Match) → new ≡ Some s → s.a ≢ m.a) → (after : List Match)
-        → IsRescored old new after → (round : ℕ) → totals_of (own player (flat_map (appearances_of_match round) after)) ≡ totals_of_games g
+        → IsRescored old new after → (round : ℕ) → totals_of (flat_map (results_of_match player round) after) ≡ totals_of_games g
     seen-old seen None other after same round =
         let it = found player old m is in
         rw same (seen-at old once it.place m player it.within it.here it.sits g seen round)
@@ -113,7 +116,7 @@ module _ (old : List Match) (once : IsSeatedOnce old) (player : ℕ) where
 
     -- of the match with its new score
     pub seen-new : (s : Match) → s.a ≡ m.a → AreSeen s player g → (after : List Match) → Rescores old s after
-        → (round : ℕ) → totals_of (own player (flat_map (appearances_of_match round) after)) ≡ totals_of_games g
+        → (round : ℕ) → totals_of (flat_map (results_of_match player round) after) ≡ totals_of_games g
     seen-new s first seen after h round =
         let it = found player old m is in
         let listed : get_or old h.place m ≡ get_or old h.place s = get_or_default old h.place m s h.within in
@@ -144,7 +147,7 @@ module _ (old : List Match) (once : IsSeatedOnce old) (player : ℕ) where
 
 module _ (old : List Match) (once : IsSeatedOnce old) (player : ℕ) (m : Match) (is : seat_of old player ≡ Some m) (g : Option Games) where
   pub seen-with : (new : Option Match) → AreSeen (with_new m new) player g → (after : List Match) → IsRescored old new after
-      → (round : ℕ) → totals_of (own player (flat_map (appearances_of_match round) after)) ≡ totals_of_games g
+      → (round : ℕ) → totals_of (flat_map (results_of_match player round) after) ≡ totals_of_games g
   seen-with None seen after same round = seen-old old once player m is g seen None (λ s e. absurd (none-some s e)) after same round
   seen-with (Some s) seen after h round = elim (cases_Bool (s.a == m.a)) [
     | inl same ↦
@@ -165,11 +168,11 @@ new-apart m (Some s) apart h = cond_both (s.a == m.a) s m (λ (n : Match). n.a �
 pub over-none : AreOver 0 (totals_of [])
 over-none = record { points = omega arith; rounds_are = omega arith; game_points = omega arith; games = omega arith }
 
-pub appearances-more : (player : ℕ) (rounds : List Round) (i : ℕ) (r : Round) → i < length rounds → r ≡ get_or rounds i r
-    → plus (totals_of (own player (appearances_from 1 (take i rounds))))
-    (totals_of (own player (counted_appearances (1 + length (take i rounds)) r)))
-    ≡ totals_of (own player (appearances_from 1 (take (i + 1) rounds)))
-appearances-more player rounds i r below is = sym (ap totals_of (own-more player rounds i r below is) ∙ totals_of-append _ _)
+pub results-more : (player : ℕ) (rounds : List Round) (i : ℕ) (r : Round) → i < length rounds → r ≡ get_or rounds i r
+    → plus (totals_of (results_from player 1 (take i rounds)))
+    (totals_of (complete_results player (1 + length (take i rounds), r)))
+    ≡ totals_of (results_from player 1 (take (i + 1) rounds))
+results-more player rounds i r below is = sym (ap totals_of (results_from-more player rounds i r below is) ∙ totals_of-append _ _)
 
 pub over-weaker : (i j : ℕ) (t : Totals) → i ≤ j → AreOver i t → AreOver j t
 over-weaker i j t low over = record {
@@ -201,15 +204,15 @@ complete-min (suc j) (suc n) (suc m) (r ∷ rs) done low few within =
 -- ---- all players
 
 pub gathered-is : (e : EventValue) → IsSoundButForSeeds e → (n : ℕ) → n ≤ length e.stored → (g : Gathered)
-    → ArePlayed (appearances_from 1 e.stored) g.played
+    → ArePlayed e.stored g.played
     → length g.played ≡ 513 → g.complete ≡ complete n e.stored
-    → (p : Player) → 1 ≤ p.no → p.no ≤ 512 → p.joined ≤ n → joined_of e.players p.no ≡ p.joined → gathered_of g p ≡ totals e p.no
+    → (p : Player) → 1 ≤ p.no → p.no ≤ 512 → p.joined ≤ n → rounds_missed_of e.players p.no ≡ p.joined → gathered_of g p ≡ totals e p.no
 gathered-is e sound n within g played long count p low high few joined =
     let first = complete-min p.joined n (length e.stored - 1) e.stored sound.rounds.earlier_done few (omega arith) within in
-    let missed : min g.complete p.joined ≡ complete (joined_of e.players p.no) e.stored = rw (count, joined) (sym first) in
-    ap₂ plus (played p.no low (omega arith)) (ap missed_totals missed) ∙ sym (totals-split e p.no sound.players.numbered)
+    let missed : min g.complete p.joined ≡ complete (rounds_missed_of e.players p.no) e.stored = rw (count, joined) (sym first) in
+    ap₂ plus (played p.no low (omega arith)) (ap missed_totals missed) ∙ sym (totals-split e p.no)
 
-pub gathered-now : (e : EventValue) → IsSoundButForSeeds e → (g : Gathered) → ArePlayed (appearances_from 1 e.stored) g.played
+pub gathered-now : (e : EventValue) → IsSoundButForSeeds e → (g : Gathered) → ArePlayed e.stored g.played
     → length g.played ≡ 513 → g.complete ≡ complete (length e.stored) e.stored → AreTotals e e.players g
 gathered-now e sound g played long count = λ k d below.
     let p = get_or e.players k d in
@@ -231,7 +234,7 @@ pub slot-rescores : (ms : List Match) (t : ℕ) (s : Games) (n : Match) → 1 �
     → Rescores ms n (scored_slot ms t s)
 slot-rescores ms t s n low high is =
     let m = get_or ms (t - 1) (open_match 0 0) in
-    let new : n ≡ scored s m = is ∙ get_or-set_same ms (t - 1) (scored s m) n (omega arith) in
+    let new : n ≡ match_with_score s m = is ∙ get_or-set_same ms (t - 1) (match_with_score s m) n (omega arith) in
     let here : get_or ms (t - 1) n ≡ m = get_or_default ms (t - 1) n (open_match 0 0) (omega arith) in
     record {
       place = t - 1;
@@ -247,11 +250,10 @@ slot-apart ms t s n low high is once same =
     let it = slot-rescores ms t s n low high is in
     (sit-apart ms once).0 it.place n it.within (it.first ∙ (same ∙ sym it.second))
 
-pub appearances-push : (player : ℕ) (rounds : List Round) (r : Round)
-    → plus (totals_of (own player (appearances_from 1 rounds))) (totals_of (own player (counted_appearances (1 + length rounds) r)))
-    ≡ totals_of (own player (appearances_from 1 (rounds ++ r ∷ [])))
-appearances-push player rounds r = sym (ap totals_of (ap (own player) (appearances_from-push 1 rounds r)
-    ∙ own-append player (appearances_from 1 rounds) (counted_appearances (1 + length rounds) r)) ∙ totals_of-append _ _)
+pub results-push : (player : ℕ) (rounds : List Round) (r : Round)
+    → plus (totals_of (results_from player 1 rounds)) (totals_of (complete_results player (1 + length rounds, r)))
+    ≡ totals_of (results_from player 1 (rounds ++ r ∷ []))
+results-push player rounds r = sym (ap totals_of (results_from-push player 1 rounds r) ∙ totals_of-append _ _)
 
 pub stored-grows : (e : EventValue) (c : Change) → length e.stored ≤ length (after e c).stored
 stored-grows e (AddRound matches) = omega (arith, length-append e.stored (record { matches = matches } ∷ []))
@@ -260,7 +262,7 @@ stored-grows e (SetScore round table score) =
 stored-grows e _ = omega arith
 
 joined-stays : (e : EventValue) (c : Change) → IsSoundButForSeeds e → (k : ℕ) (p : Player) → k < length e.players → p ≡ get_or e.players k p
-    → joined_of (after e c).players p.no ≡ p.joined
+    → rounds_missed_of (after e c).players p.no ≡ p.joined
 joined-stays e (AddPlayer name) sound k p below is =
     let number = number_at e.players k p below is sound.players.numbered in
     joined-others p.no e.players (new_player e name) (λ same. omega arith) ∙ joined-at e.players k p sound.players.numbered below is
@@ -269,7 +271,7 @@ joined-stays e (SetDropped gone) sound k p below is =
 joined-stays e _ sound k p below is = joined-at e.players k p sound.players.numbered below is
 
 pub gathered-after : (e : EventValue) (c : Change) → IsSoundButForSeeds e → IsSoundButForSeeds (after e c) → (g : Gathered)
-    → ArePlayed (appearances_from 1 (after e c).stored) g.played
+    → ArePlayed (after e c).stored g.played
     → length g.played ≡ 513 → g.complete ≡ complete (length e.stored) (after e c).stored → AreTotals (after e c) e.players g
 gathered-after e c sound next g played long count = λ k d below.
     let p = get_or e.players k d in

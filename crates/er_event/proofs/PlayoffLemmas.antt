@@ -1,5 +1,5 @@
 -- An event whose playoff begins, or has one more score, is sound exactly where its checks hold.
-use Rattle.er_event.proofs.Prelude.{FollowOn, IsDecided, SameSlots, last_match, next_stage, Fits, EventValue, is_counted, IsBracket}
+use Rattle.er_event.proofs.Prelude.{FollowOn, IsDecided, SameSlots, last_match, next_stage, Fits, EventValue, is_complete, IsBracket}
 use Rattle.er_event.proofs.Prelude.{IsPlayoff, IsSoundButForSeeds, is_lawful_cut, numbers, AddBracket, Phase, Enrolling, Finished, Match}
 use Rattle.er_event.proofs.Prelude.{Bool, List, None, Some, [], ap, arith, drop, inl, inr, length, not, refl, subst, suc, sym, true, zero}
 use Rattle.er_event.proofs.Prelude.{ℕ, ◌++◌, ◌<◌, ◌==◌, ◌∙◌, ◌∷◌, ◌≡◌, ◌≤◌, set, nat_tests, common_steps, All-weaker, recursion_from_All}
@@ -133,7 +133,7 @@ true-not b n e = grind arith
 
 -- ---- what may open the playoff
 
-all-open : (ms : List Match) → 0 < length ms → AllByRecursion (λ (m : Match). m.score ≡ None) ms → is_counted ms ≡ true → ⊥
+all-open : (ms : List Match) → 0 < length ms → AllByRecursion (λ (m : Match). m.score ≡ None) ms → is_complete ms ≡ true → ⊥
 all-open [] some free h = absurd (omega arith)
 all-open (m ∷ ms) some free h = grind (arith, common_steps)
 

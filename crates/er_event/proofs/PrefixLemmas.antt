@@ -1,5 +1,5 @@
 -- The first rounds of an event's are an event's too.
-use Rattle.er_event.proofs.Prelude.{is_counted, is_same_pairing, matches_of, AreRounds, IsPlayoff, IsRound, Phase, Enrolling, Swiss, Match}
+use Rattle.er_event.proofs.Prelude.{is_complete, is_same_pairing, matches_of, AreRounds, IsPlayoff, IsRound, Phase, Enrolling, Swiss, Match}
 use Rattle.er_event.proofs.Prelude.{Round, MayFollow, All, AllPairs, IsFalse, IsTrue, List, [], ap, arith, drop, get_or, length, subst, sym}
 use Rattle.er_event.proofs.Prelude.{take, ℕ, ◌++◌, ◌+◌, ◌-◌, ◌<◌, ◌∙◌, ◌∷◌, ◌≡◌, ◌≤◌, common_steps, All-take}
 use Rattle.std.proofs.{lemmas.List.Concat.flat_map-append, lemmas.List.{length-take, take-append-drop, take-take}}
@@ -29,8 +29,8 @@ module _ (phase : Phase) (limit : ℕ) (known : List ℕ) (rounds : List Round) 
         each = All-take (λ (r : Round). IsRound known r.matches) i rounds h.each;
         no_repeats =
             pairs_left Differ (matches_of (take i rounds)) (matches_of (drop i rounds)) (subst (AllPairs Differ) split h.no_repeats);
-        earlier_done = subst (All (λ (r : Round). IsTrue (is_counted r.matches))) (sym before)
-            (All-take (λ (r : Round). IsTrue (is_counted r.matches)) (length (take i rounds) - 1) (take (length rounds - 1) rounds)
+        earlier_done = subst (All (λ (r : Round). IsTrue (is_complete r.matches))) (sym before)
+            (All-take (λ (r : Round). IsTrue (is_complete r.matches)) (length (take i rounds) - 1) (take (length rounds - 1) rounds)
             h.earlier_done);
         done = λ over. absurd (not_over over);
       }

@@ -21,18 +21,17 @@ pub use Rattle.std.specs.Bool.{Decides}
 pub use Rattle.std.specs.List.{range_with_len, slice_get, AllByRecursion, list_all, list_any}
 pub use Rattle.std.specs.Str.{IsUtf8, bytes_eq}
 pub use Rattle.er_event.specs.Bracket.{open_match, FollowOn, is_over, IsDecided, SameSlots, next_stage, slot_at, last_match, slot_in}
-pub use Rattle.er_event.specs.Bracket.{following, winner}
-pub use Rattle.er_event.specs.Change.{scored_slot, Fits, scored, with_score, has_name, score_table, IsEnd, one_more, stage_of}
+pub use Rattle.er_event.specs.Bracket.{stage_after, winner}
+pub use Rattle.er_event.specs.Change.{scored_slot, Fits, match_with_score, with_score, has_name, score_table, IsEnd, one_more, stage_of}
 pub use Rattle.er_event.specs.Change.{with_bracket_score, with_player, with_dropped, with_round, dropped_at, with_phase}
 pub use Rattle.er_event.specs.Event.{EventValue}
-pub use Rattle.er_event.specs.Appearances.{own, appearances_from, appearances_of_match, counted_appearances, Appearance}
-pub use Rattle.er_event.specs.Appearances.{appearances_of_score}
 pub use Rattle.er_event.specs.Match.{is_known}
 pub use Rattle.er_event.specs.Name.{is_lawful_name}
 pub use Rattle.er_event.specs.Pairings.{FitRows, AreTables, FitsRow, table_rows, is_of}
 pub use Rattle.er_event.specs.Parts.{IsEventRow, IsFirstFault, IsOf}
-pub use Rattle.er_event.specs.Recounted.{recounted, recounted_in}
-pub use Rattle.er_event.specs.Round.{IsAbsent, is_counted, seats, is_bye, numbered_from, match_in, matches_of, match_at, is_same_pairing}
+pub use Rattle.er_event.specs.Recounted.{recounted_matches, recounted_matches_in}
+pub use Rattle.er_event.specs.Results.{RoundResult, results_by, results_in, rounds_missed_of}
+pub use Rattle.er_event.specs.Round.{IsAbsent, is_complete, seats, is_bye, numbered_from, match_in, matches_of, match_at, is_same_pairing}
 pub use Rattle.er_event.specs.Rows.{bracket_rows_from, keyed_rows_from, player_row, keyed_round_rows, pairing_row, bracket_row, phase_code}
 pub use Rattle.er_event.specs.Rows.{tally_row}
 pub use Rattle.er_event.specs.Score.{is_playoff_score, is_swiss_score, bye_score}
@@ -55,7 +54,8 @@ pub use Rattle.er_event.specs.declared.rows.event.Setup.{Setup}
 pub use Rattle.er_event.specs.declared.rows.pairing.PairingRow.{PairingRow}
 pub use Rattle.er_event.specs.declared.rows.tally.TallyRow.{TallyRow}
 pub use Rattle.er_event.specs.declared.scores.Games.{Games}
-pub use Rattle.er_event.specs.inside.EventFields.{value_of}
+pub use Rattle.er_event.specs.inside.EventFields.{event_value}
+pub use Rattle.er_event.specs.inside.Played.{complete_results, results_from, results_of_match}
 pub use Rattle.er_event.specs.inside.Reading.{IsSetUpAs, MayFollow}
-pub use Rattle.er_event.specs.inside.Seen.{AreOver, IsSeatedOnce, rescored}
+pub use Rattle.er_event.specs.inside.Seen.{AreOver, IsSeatedOnce, rounds_with_score, totals_of_games}
 pub use Rattle.er_event.specs.inside.Stages.{FitStageRows, FitsSlotRow, slot_rows}

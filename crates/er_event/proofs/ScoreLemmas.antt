@@ -1,5 +1,6 @@
 -- An event with one score set anew is sound exactly where the score is lawful.
-use Rattle.er_event.proofs.Prelude.{Fits, score_table, scored, with_score, EventValue, is_bye, is_counted, match_at, match_in, matches_of}
+use Rattle.er_event.proofs.Prelude.{Fits, score_table, match_with_score, with_score, EventValue, is_bye, is_complete, match_at, match_in}
+use Rattle.er_event.proofs.Prelude.{matches_of}
 use Rattle.er_event.proofs.Prelude.{numbered_from, seats, bye_score, is_swiss_score, AreRounds, IsRound, IsSoundButForSeeds, numbers}
 use Rattle.er_event.proofs.Prelude.{HasMissed, IsAbsent, Player, SetScore, Match, Round, Games, All, AllPairs, Bor, Contains, IfSome}
 use Rattle.er_event.proofs.Prelude.{IsFalse, IsTrue, List, None}
@@ -23,19 +24,19 @@ module _ {X : Type 0} (P : X → Type 0) (a : X) where
 
 -- ---- the round, and the event, whose match has a new score
 
-module _ (s : Games) (m : Match) (i : ℕ) (ms : List Match) (there : get_or ms i (scored s m) ≡ m) (seat : is_bye m ≡ false) where
+module _ (s : Games) (m : Match) (i : ℕ) (ms : List Match) (there : get_or ms i (match_with_score s m) ≡ m) (seat : is_bye m ≡ false) where
   abbrev new : List Match
-  new = set ms i (scored s m)
+  new = set ms i (match_with_score s m)
 
-  kept : (P : Match → Type 0) → (P m → P (scored s m)) → All P ms → All P new
-  kept P here h = All-set P (scored s m) i ms (λ p. here (subst P there p)) h
+  kept : (P : Match → Type 0) → (P m → P (match_with_score s m)) → All P ms → All P new
+  kept P here h = All-set P (match_with_score s m) i ms (λ p. here (subst P there p)) h
 
   seats-new : flat_map seats ms ≡ flat_map seats new
-  seats-new = seats-set (scored s m) i ms (ap (λ (k : Match). k.a) there) (ap (λ (k : Match). k.b) there)
+  seats-new = seats-set (match_with_score s m) i ms (ap (λ (k : Match). k.a) there) (ap (λ (k : Match). k.b) there)
 
   round-scored : (known : List ℕ) → is_swiss_score s ≡ true → IsRound known ms → IsRound known new
   round-scored known swiss h =
-      let count : length new ≡ length ms = length-set ms i (scored s m) in
+      let count : length new ≡ length ms = length-set ms i (match_with_score s m) in
       record {
         some = let some = h.some in omega arith;
         first_known = kept (λ (k : Match). Contains known k.a) (λ p. p) h.first_known;
@@ -45,10 +46,10 @@ module _ (s : Games) (m : Match) (i : ℕ) (ms : List Match) (there : get_or ms 
             (λ _ bye. absurd (true≢false (sym bye ∙ seat))) h.byes_won;
         scores = kept (λ (k : Match). IfSome k.score (λ t. IsTrue (is_swiss_score t))) (λ _. swiss) h.scores;
         bye_last = subst (λ (n : ℕ). All (λ (k : Match). IsFalse (is_bye k)) (take (n - 1) new)) (sym count)
-            (First-set (λ (k : Match). IsFalse (is_bye k)) (scored s m) (length ms - 1) i ms (λ _. seat) h.bye_last);
+            (First-set (λ (k : Match). IsFalse (is_bye k)) (match_with_score s m) (length ms - 1) i ms (λ _. seat) h.bye_last);
       }
 
-  counted-scored : is_counted ms ≡ true → is_counted new ≡ true
+  counted-scored : is_complete ms ≡ true → is_complete new ≡ true
   counted-scored all = grind (arith, common_steps, of-All, kept, All-of)
 
   module _ (e : EventValue) (j : ℕ) (round : (get_or e.stored j (record { matches = new })).matches ≡ ms) where
@@ -59,13 +60,13 @@ module _ (s : Games) (m : Match) (i : ℕ) (ms : List Match) (there : get_or ms 
     rounds = set e.stored j r
 
     abbrev Counted : Round → Type 0
-    Counted q = IsTrue (is_counted q.matches)
+    Counted q = IsTrue (is_complete q.matches)
 
     count-rounds : length rounds ≡ length e.stored
     count-rounds = length-set e.stored j r
 
     counted-here : Counted (get_or e.stored j r) → Counted r
-    counted-here h = counted-scored (ap is_counted (sym round) ∙ h)
+    counted-here h = counted-scored (ap is_complete (sym round) ∙ h)
 
     rounds-scored : is_swiss_score s ≡ true → AreRounds e.phase e.rounds (numbers e.players) e.stored
         → AreRounds e.phase e.rounds (numbers e.players) rounds
@@ -100,7 +101,7 @@ module _ (s : Games) (m : Match) (i : ℕ) (ms : List Match) (there : get_or ms 
 
     -- a sound event has no other score
     scored-swiss : i < length ms → j < length e.stored → IsSoundButForSeeds (record e { stored = rounds }) → is_swiss_score s ≡ true
-    scored-swiss table within h = set-All (λ (k : Match). IfSome k.score (λ t. IsTrue (is_swiss_score t))) (scored s m) i ms table
+    scored-swiss table within h = set-All (λ (k : Match). IfSome k.score (λ t. IsTrue (is_swiss_score t))) (match_with_score s m) i ms table
         (set-All (λ (q : Round). IsRound (numbers e.players) q.matches) r j e.stored within h.rounds.each).scores
 
 -- ---- the match of a table of a round
@@ -133,22 +134,23 @@ module _ (e : EventValue) (k t : ℕ) (s : Games) (m : Match) (is : match_at e k
   abbrev With : List Match → EventValue
   With ks = record e { stored = set e.stored (k - 1) (record { matches = ks }) }
 
-  pub scored-is : with_score e k t s ≡ With (set ms (t - 1) (scored s m))
+  pub scored-is : with_score e k t s ≡ With (set ms (t - 1) (match_with_score s m))
   scored-is = grind (arith, common_steps, numbered_from, round-is, score-place, score_table)
 
   abbrev d : Round
-  d = record { matches = set ms (t - 1) (scored s m) }
+  d = record { matches = set ms (t - 1) (match_with_score s m) }
 
   pub Fits-score : is_swiss_score s ≡ true → IsSoundButForSeeds e → Fits e (SetScore k t s)
   Fits-score swiss h = record {
     named = (m, is, seat);
     sound = subst IsSoundButForSeeds (sym scored-is)
-        (IsSound-scored s m (t - 1) ms (table-is (scored s m)) seat e (k - 1) (ap (λ (q : Round). q.matches) (round-is d)) swiss h);
+        (IsSound-scored s m (t - 1) ms (table-is (match_with_score s m)) seat e (k - 1)
+        (ap (λ (q : Round). q.matches) (round-is d)) swiss h);
   }
 
   pub swiss-score : IsSoundButForSeeds (with_score e k t s) → is_swiss_score s ≡ true
   swiss-score h =
-      scored-swiss s m (t - 1) ms (table-is (scored s m)) seat e (k - 1) (ap (λ (q : Round). q.matches) (round-is d))
+      scored-swiss s m (t - 1) ms (table-is (match_with_score s m)) seat e (k - 1) (ap (λ (q : Round). q.matches) (round-is d))
       (slice_get_within ms (t - 1) m table-read) (slice_get_within e.stored (k - 1) f.round f.stored) (subst IsSoundButForSeeds scored-is h)
 
 -- ---- the match that is read
@@ -185,7 +187,8 @@ module _ (e : EventValue) (k t : ℕ) (s : Games) (fits : Fits e (SetScore k t s
     pub listed-within : j - 1 < length q.matches
     listed-within = slice_get_within q.matches (j - 1) fits.named.0 listed-there
 
-    pub written : (new : List Match) → ((m : Match) → slice_get q.matches (j - 1) ≡ Some m → new ≡ set q.matches (j - 1) (scored s m))
+    pub written : (new : List Match)
+        → ((m : Match) → slice_get q.matches (j - 1) ≡ Some m → new ≡ set q.matches (j - 1) (match_with_score s m))
         → (let w : EventValue = record e { stored = set e.stored (i - 1) (record { matches = new }) } in w) ≡ with_score e k t s
     written new set_there =
         let m = fits.named.0 in

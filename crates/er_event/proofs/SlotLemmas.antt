@@ -1,5 +1,6 @@
 -- The slots of a next stage, and which stages follow on one another.
-use Rattle.er_event.proofs.Prelude.{FollowOn, IsDecided, SameSlots, is_over, last_match, next_stage, winner, is_counted, seats, Match, Bool}
+use Rattle.er_event.proofs.Prelude.{FollowOn, IsDecided, SameSlots, is_over, last_match, next_stage, winner, is_complete, seats, Match}
+use Rattle.er_event.proofs.Prelude.{Bool}
 use Rattle.er_event.proofs.Prelude.{IsTrue, List, None, Option, Some, [], ap, ap₂, arith, drop, flat_map, get_or, length, refl, suc, sym}
 use Rattle.er_event.proofs.Prelude.{true, zero, ℕ, ◌*◌, ◌+◌, ◌-◌, ◌/◌, ◌<◌, ◌↔◌, ◌∙◌, ◌∷◌, ◌≡◌, ◌≤◌, common_steps, drop_more, length-drop}
 use Rattle.er_event.proofs.Prelude.{slice_get}
@@ -57,8 +58,8 @@ module _ (ms ns : List Match) (half : length ns ≡ length ms / 2) (i : ℕ) whe
 
 -- what is behind a stage fits it
 abbrev pub Stands : List Match → Option (List Match) → Type 0
-Stands stage None = IsTrue (is_counted stage) → length stage ≡ 1
-Stands stage (Some next) = IsTrue (is_counted stage) × (1 < length stage) × SameSlots next (next_stage stage)
+Stands stage None = IsTrue (is_complete stage) → length stage ≡ 1
+Stands stage (Some next) = IsTrue (is_complete stage) × (1 < length stage) × SameSlots next (next_stage stage)
 
 pub follow-split : (s : List Match) (rest : List (List Match)) → FollowOn (s ∷ rest) ↔ (Stands s (slice_get rest 0) × FollowOn rest)
 follow-split s [] = (λ h. (h, tt), λ h. h.0)

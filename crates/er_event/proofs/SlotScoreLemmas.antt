@@ -1,6 +1,7 @@
 -- An event whose playoff has one more score is sound exactly where the changed stage fits what stands behind it.
-use Rattle.er_event.proofs.Prelude.{FollowOn, IsDecided, SameSlots, following, is_over, last_match, next_stage, open_match, slot_at, Fits}
-use Rattle.er_event.proofs.Prelude.{IsEnd, one_more, scored, scored_slot, stage_of, EventValue, is_counted, is_playoff_score, IsBracket}
+use Rattle.er_event.proofs.Prelude.{FollowOn, IsDecided, SameSlots, stage_after, is_over, last_match, next_stage, open_match, slot_at, Fits}
+use Rattle.er_event.proofs.Prelude.{IsEnd, one_more, match_with_score, scored_slot, stage_of, EventValue, is_complete, is_playoff_score}
+use Rattle.er_event.proofs.Prelude.{IsBracket}
 use Rattle.er_event.proofs.Prelude.{IsPlayoff, IsSoundButForSeeds, numbers, SetBracketScore, Phase, Finished, Match, Games, All, Bool, Bor}
 use Rattle.er_event.proofs.Prelude.{IfSome, IsTrue, List, None, Option, Some, [], ap, arith, cond, drop, false, get_or, inr, is_some}
 use Rattle.er_event.proofs.Prelude.{length, option_map, refl, subst, suc, sym, true, ℕ, ◌&&◌, ◌++◌, ◌-◌, ◌<◌, ◌==◌, ◌↔◌, ◌∙◌, ◌∷◌, ◌≡◌, ◌≤◌}
@@ -113,12 +114,12 @@ next-lawful (m ∷ n ∷ more) = (tt, next-lawful more)
 
 -- a stage whose last score came in ends the bracket, or the winners go on
 module _ (new : List Match) (some : 0 < length new) where
-  ends : (c t o : Bool) → is_counted new ≡ c → nat_lt 1 (length new) ≡ t → (length new == 1) ≡ o
+  ends : (c t o : Bool) → is_complete new ≡ c → nat_lt 1 (length new) ≡ t → (length new == 1) ≡ o
       → IsEnd new (cond (c && t) (Some (next_stage new)) None) (c && o)
   ends c t o counted long one = grind (arith, common_steps, last-after, nat_tests, next-lawful, slots-refl)
 
-  ends-with : IsEnd new (following new) (is_over new)
-  ends-with = ends (is_counted new) (nat_lt 1 (length new)) (length new == 1) refl refl refl
+  ends-with : IsEnd new (stage_after new) (is_over new)
+  ends-with = ends (is_complete new) (nat_lt 1 (length new)) (length new == 1) refl refl refl
 
 module _ (e : EventValue) (stage slot : ℕ) (score : Games) (m : Match) (is : slot_at e stage slot ≡ Some m) (h : IsSoundButForSeeds e) where
   abbrev f : FoundSlot e stage slot m
@@ -137,12 +138,12 @@ module _ (e : EventValue) (stage slot : ℕ) (score : Games) (m : Match) (is : s
   read : (d : Match) → get_or old (slot - 1) d ≡ m
   read d = get_or_from_slice_get old (slot - 1) m d f.here
 
-  pub new_stage-is : new_stage ≡ set old (slot - 1) (scored score m)
-  new_stage-is = ap (λ (n : Match). set old (slot - 1) (scored score n)) (read (open_match 0 0))
+  pub new_stage-is : new_stage ≡ set old (slot - 1) (match_with_score score m)
+  new_stage-is = ap (λ (n : Match). set old (slot - 1) (match_with_score score n)) (read (open_match 0 0))
 
   same-stage : SameSlots new_stage old
   same-stage =
-      let n : Match = scored score (get_or old (slot - 1) (open_match 0 0)) in
+      let n : Match = match_with_score score (get_or old (slot - 1) (open_match 0 0)) in
       let reads : get_or old (slot - 1) n ≡ get_or old (slot - 1) (open_match 0 0) = read n ∙ sym (read (open_match 0 0)) in
       (same-seats new_stage old).1 (sym (seats-set n (slot - 1) old (ap (λ (k : Match). k.a) reads) (ap (λ (k : Match). k.b) reads)))
 
@@ -156,12 +157,12 @@ module _ (e : EventValue) (stage slot : ℕ) (score : Games) (m : Match) (is : s
   behind-decided = decided-old e (stage - 1) old new_stage f.at same-stage h
 
   lawful-new : is_playoff_score score ≡ true → AllLawful new_stage
-  lawful-new playoff = All-set Lawful (scored score (get_or old (slot - 1) (open_match 0 0))) (slot - 1) old (λ _. playoff)
+  lawful-new playoff = All-set Lawful (match_with_score score (get_or old (slot - 1) (open_match 0 0))) (slot - 1) old (λ _. playoff)
       (all-at AllLawful (stage - 1) e.bracket.stages old f.at (recursion_from_All AllLawful e.bracket.stages
       (h.bracket.bracket over-before).scores))
 
   new-lawful : AllLawful new_stage → is_playoff_score score ≡ true
-  new-lawful all = set-All Lawful (scored score (get_or old (slot - 1) (open_match 0 0))) (slot - 1) old
+  new-lawful all = set-All Lawful (match_with_score score (get_or old (slot - 1) (open_match 0 0))) (slot - 1) old
       (slice_get_within old (slot - 1) m f.here) all
 
   module _ (next : Option (List Match)) (finished : Bool) where
@@ -235,7 +236,7 @@ module _ (e : EventValue) (stage slot : ℕ) (score : Games) (m : Match) (is : s
 
   -- an open match takes its score
   module _ (free : m.score ≡ None) where
-    was-open : is_counted old ≡ true → ⊥
+    was-open : is_complete old ≡ true → ⊥
     was-open counted = let here = All-of (λ (k : Match). is_some k.score) old counted (slot - 1) m in
         let there = get_or_from_slice_get old (slot - 1) m m f.here in
         let within = slice_get_within old (slot - 1) m f.here in
@@ -252,17 +253,17 @@ module _ (e : EventValue) (stage slot : ℕ) (score : Games) (m : Match) (is : s
     ended : (b : Bool) → IsTrue b ↔ (cond b Finished e.phase ≡ Finished)
     ended b = grind (arith, not-finished)
 
-    pub Fits-open : is_playoff_score score ≡ true → Fits e (SetBracketScore stage slot score (following new_stage) (is_over new_stage))
+    pub Fits-open : is_playoff_score score ≡ true → Fits e (SetBracketScore stage slot score (stage_after new_stage) (is_over new_stage))
     Fits-open playoff =
         let within = slice_get_within old (slot - 1) m f.here in
         let count = length-same new_stage old same-stage in
-        Fits-last (following new_stage) (is_over new_stage) (is-last behind refl) (is_over new_stage) (ended (is_over new_stage)) playoff
+        Fits-last (stage_after new_stage) (is_over new_stage) (is-last behind refl) (is_over new_stage) (ended (is_over new_stage)) playoff
         (ends-with new_stage (omega arith))
 
 pub open-fits : (e : EventValue) (stage slot : ℕ) (found : Option (Bor Match)) → IsSoundButForSeeds e
     → option_map (λ (m : Bor Match). m.now) found ≡ slot_at e stage slot
     → IfSome found (λ m. m.now.score ≡ None → (score : Games) → IsTrue (is_playoff_score score)
-    → Fits e (SetBracketScore stage slot score (following (scored_slot (stage_of e.bracket.stages stage) slot score))
+    → Fits e (SetBracketScore stage slot score (stage_after (scored_slot (stage_of e.bracket.stages stage) slot score))
     (is_over (scored_slot (stage_of e.bracket.stages stage) slot score))))
 open-fits e stage slot None sound is = tt
 open-fits e stage slot (Some m) sound is = λ free score playoff. Fits-open e stage slot score m.now (sym is) sound free playoff

@@ -1,5 +1,6 @@
 -- The stages of a sound event can be shown by rows, and are few.
-use Rattle.er_event.proofs.Prelude.{FollowOn, SameSlots, next_stage, open_match, winner, scored, seats, is_playoff_score, IsBracket}
+use Rattle.er_event.proofs.Prelude.{FollowOn, SameSlots, next_stage, open_match, winner, match_with_score, seats, is_playoff_score}
+use Rattle.er_event.proofs.Prelude.{IsBracket}
 use Rattle.er_event.proofs.Prelude.{is_lawful_cut, Match, Games, FitStageRows, FitsSlotRow, All, Contains, IfSome, IsTrue, List, Option, []}
 use Rattle.er_event.proofs.Prelude.{ap, arith, flat_map, length, subst, suc, sym, ℕ, ◌/◌, ◌<◌, ◌∙◌, ◌∷◌, ◌≡◌, ◌≤◌, nat_tests, common_steps}
 use Rattle.er_event.proofs.Prelude.{All-cons, All-nil, none-some, same_Some, range_with_len}
@@ -29,7 +30,8 @@ same_narrow ms ns same all = seats-All (λ k. k < 65536) ms
     (subst (All (λ k. k < 65536)) (sym ((same-seats ms ns).0 same)) (All-seats (λ k. k < 65536) ns all))
 
 all_shown : (ms : List Match) → All IsNarrow ms → All IsScored ms → All FitsSlotRow ms
-all_shown ms narrow scored k d below = record { first = (narrow k d below).0; second = (narrow k d below).1; score = scored k d below }
+all_shown ms narrow match_with_score k d below =
+    record { first = (narrow k d below).0; second = (narrow k d below).1; score = match_with_score k d below }
 
 follow_shown : (s : List Match) (more : List (List Match)) → 0 < length s → All IsNarrow s → FollowOn (s ∷ more)
     → All (λ (ms : List Match). All IsScored ms) (s ∷ more) → All FitStageRows (s ∷ more)

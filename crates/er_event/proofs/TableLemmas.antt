@@ -1,5 +1,6 @@
 -- The match of a table stands at the table's place, or is the bye at table 0.
-use Rattle.er_event.proofs.Prelude.{score_table, scored, is_bye, match_in, numbered_from, Match, Games, Bool, List, None, Option, Some, []}
+use Rattle.er_event.proofs.Prelude.{score_table, match_with_score, is_bye, match_in, numbered_from, Match, Games, Bool, List, None, Option}
+use Rattle.er_event.proofs.Prelude.{Some, []}
 use Rattle.er_event.proofs.Prelude.{ap, arith, cond, false, find, get_or, length, map, not, option_map, refl, suc, sym, true, true≢false}
 use Rattle.er_event.proofs.Prelude.{zero, ℕ, ◌+◌, ◌-◌, ◌<◌, ◌==◌, ◌∙◌, ◌∷◌, ◌≡◌, ◌≢◌, ◌≤◌, set, common_steps, none-some, slice_get_past}
 use Rattle.er_event.proofs.Prelude.{slice_get_read, slice_get}
@@ -55,10 +56,10 @@ at-place ms (suc t) m is seat = (omega arith, seated-is (slice_get ms (suc t - 1
 -- ---- and it alone gets the score
 
 module _ (t : ℕ) (s : Games) where
-  kept : (m : Match) (b : Bool) → b ≡ false → cond b (scored s m) m ≡ m
+  kept : (m : Match) (b : Bool) → b ≡ false → cond b (match_with_score s m) m ≡ m
   kept m b not = rw not refl
 
-  changed : (m : Match) (b : Bool) → b ≡ true → cond b (scored s m) m ≡ scored s m
+  changed : (m : Match) (b : Bool) → b ≡ true → cond b (match_with_score s m) m ≡ match_with_score s m
   changed m b is = rw is refl
 
   untouched : (n : ℕ) (ms : List Match) → 1 ≤ t → t < n → map (score_table t s) (numbered_from n ms) ≡ ms
@@ -66,14 +67,14 @@ module _ (t : ℕ) (s : Games) where
   untouched n (m ∷ ms) some below = grind (arith, common_steps, untouched (n + 1) ms some (omega arith))
 
 score-from : (s : Games) (n i t : ℕ) (ms : List Match) (m : Match) → 1 ≤ n → t ≡ n + i → slice_get ms i ≡ Some m → is_bye m ≡ false
-    → map (score_table t s) (numbered_from n ms) ≡ set ms i (scored s m)
+    → map (score_table t s) (numbered_from n ms) ≡ set ms i (match_with_score s m)
 score-from s n i t [] m low at is seat = absurd (none-some m is)
 score-from s n zero t (k ∷ ms) m low at is seat = grind (arith, common_steps, untouched)
 score-from s n (suc i) t (k ∷ ms) m low at is seat =
     grind (arith, common_steps, score-from s (n + 1) i t ms m (omega arith) (omega arith) is seat)
 
 pub score-place : (s : Games) (t : ℕ) (ms : List Match) (m : Match) → match_in ms t ≡ Some m → is_bye m ≡ false
-    → map (score_table t s) (numbered_from 1 ms) ≡ set ms (t - 1) (scored s m)
+    → map (score_table t s) (numbered_from 1 ms) ≡ set ms (t - 1) (match_with_score s m)
 score-place s t ms m is seat = grind (arith, common_steps, at-place, score-from)
 
 -- ---- the read of a place

@@ -1,4 +1,7 @@
 -- Single elimination: who goes on, and when a next stage stands.
+--
+-- A stage is one round of the playoff. Its matches stand by slot: a slot is the place of a match in its stage, from 1 at the
+-- top of the bracket. Eight players have a first stage of four slots, a second of two, and a third of one, which is the final.
 use Rattle.std.specs.Prelude.{◌≡◌, ℕ, ◌-◌, ◌<◌, ◌==◌, ◌&&◌, ◌||◌, nat_lt, Bool, if◌then◌else◌, List, [], ◌∷◌, length, slice_get}
 use Rattle.std.specs.Prelude.{option_and_then, option_map, Option, Some, None, IsTrue, IsSome, MatchOption}
 use Rattle.er_event.specs.declared.scores.Games.{Games}
@@ -6,7 +9,7 @@ use Rattle.er_event.specs.declared.events.Phase.{Phase}
 use Rattle.er_event.specs.declared.events.Phase.TheVariants.{Finished}
 use Rattle.er_event.specs.declared.matches.Match.{Match}
 use Rattle.er_event.specs.Event.{EventValue}
-use Rattle.er_event.specs.Round.{is_counted}
+use Rattle.er_event.specs.Round.{is_complete}
 
 abbrev pub open_match : ℕ → ℕ → Match
 open_match a b = record { a = a; b = b; score = None }
@@ -22,7 +25,7 @@ winner_with m (Some s) = winner_by m s
 abbrev pub winner : Match → ℕ
 winner m = winner_with m m.score
 
--- slot i has the winners of the slots 2i-1 and 2i
+-- slot i has the winners of the slots 2i-1 and 2i: those of slots 1 and 2 meet in slot 1, those of 3 and 4 in slot 2
 abbrev pub next_stage : List Match → List Match
 next_stage [] = []
 next_stage (m ∷ []) = []
@@ -38,8 +41,9 @@ SameSlots (m ∷ ms) [] = ⊥
 -- a next stage stands exactly where the stage before is complete and has more than one slot
 abbrev pub FollowOn : List (List Match) → Type 0
 FollowOn [] = Unit {0}
-FollowOn (last ∷ []) = IsTrue (is_counted last) → length last ≡ 1
-FollowOn (stage ∷ next ∷ more) = IsTrue (is_counted stage) × (1 < length stage) × SameSlots next (next_stage stage) × FollowOn (next ∷ more)
+FollowOn (last ∷ []) = IsTrue (is_complete last) → length last ≡ 1
+FollowOn (stage ∷ next ∷ more) = IsTrue (is_complete stage) × (1 < length stage) × SameSlots next (next_stage stage)
+    × FollowOn (next ∷ more)
 
 -- the final: the only match of the last stage, where that has one slot
 abbrev pub last_match : List (List Match) → Option Match
@@ -61,7 +65,7 @@ champion_in _ stages = None
 abbrev pub champion : EventValue → Option ℕ
 champion event = champion_in event.phase event.bracket.stages
 
--- the match of a slot of a stage, both numbered from 1
+-- the match of a slot of a stage: stage 1 is the first round of the playoff, and slot 1 is at the top of the bracket
 abbrev pub slot_in : List (List Match) → ℕ → ℕ → Option Match
 slot_in stages stage slot =
     if stage == 0 || slot == 0 then None
@@ -71,9 +75,9 @@ abbrev pub slot_at : EventValue → ℕ → ℕ → Option Match
 slot_at event stage slot = slot_in event.bracket.stages stage slot
 
 -- the stage of the winners, where this one is complete and has more than one slot
-abbrev pub following : List Match → Option (List Match)
-following stage = if is_counted stage && nat_lt 1 (length stage) then Some (next_stage stage) else None
+abbrev pub stage_after : List Match → Option (List Match)
+stage_after stage = if is_complete stage && nat_lt 1 (length stage) then Some (next_stage stage) else None
 
 -- the stage was the final, and is played
 abbrev pub is_over : List Match → Bool
-is_over stage = is_counted stage && length stage == 1
+is_over stage = is_complete stage && length stage == 1

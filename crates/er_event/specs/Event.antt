@@ -16,5 +16,5 @@ pub record EventValue : Type 0 where
   pub players : List Player
   -- round by round; in each tables 1, 2, .. and then the bye
   pub stored : List Round
-  -- stage by stage; in each by slot
+  -- the playoff, stage by stage, its first round first; in each stage the matches by slot
   pub bracket : Bracket

@@ -3,7 +3,7 @@
 -- Event is the tournament as every contract sees it; Name and Score say what may stand in one. Round, Match and Bracket
 -- say what matches are, and Sound puts all of it together: what is true of every event, but for who is seeded where.
 -- Change says when a change fits, and the event after it; Safe, which changes keep an event sound, but for its seeds.
--- Appearances and Totals count a player's matches, and the rounds that the player missed; Tallies are the totals of all, and
+-- Results are the rounds that a player has played, and has missed, and Totals count them; Tallies are the totals of all, and
 -- who met whom; Recounted is what a change counts anew, and for whom; Slip is one match with its names.
 --
 -- Rows are the rows of the five tables that an event has, and Version says which events each version of the tables can
@@ -25,7 +25,7 @@ pub mod Version
 pub mod Rows
 pub mod Parts
 pub mod Pairings
-pub mod Appearances
+pub mod Results
 pub mod Totals
 pub mod Slip
 pub mod Tallies

@@ -15,5 +15,5 @@ is_lawful_name name =
     && not (slice_index_or name 0 0 == 32) && not (slice_index_or name (length name - 1) 0 == 32)
 
 -- a name with zeros behind it, as many as it lacks of 60 bytes
-abbrev pub padded : List ℕ → List ℕ
-padded name = name ++ replicate (MAX_NAME_BYTES - length name) 0
+abbrev pub name_with_zeros : List ℕ → List ℕ
+name_with_zeros name = name ++ replicate (MAX_NAME_BYTES - length name) 0

@@ -9,40 +9,40 @@ use Rattle.er_event.specs.declared.scores.Games.{Games}
 use Rattle.er_event.specs.Bracket.{open_match}
 use Rattle.er_event.specs.Change.{scored_slot, with_player, Fits}
 use Rattle.er_event.specs.Event.{EventValue}
-use Rattle.er_event.specs.Appearances.{has_missed}
-use Rattle.er_event.specs.Round.{is_counted}
+use Rattle.er_event.specs.Results.{has_missed}
+use Rattle.er_event.specs.Round.{is_complete}
 use Rattle.er_event.specs.Sound.{IsSoundButForSeeds, numbers}
 use Rattle.er_event.specs.Totals.{totals}
 
 -- ---- the matches that count anew
 
 -- a score of a table: its own match in a complete round, and all matches of a round that it completes
-abbrev pub recounted_in : List Match → ℕ → Games → List Match
-recounted_in matches table score =
-    if is_counted matches then slice_index_or matches (table - 1) (open_match 0 0) ∷ []
-    else if is_counted (scored_slot matches table score) then matches
+abbrev pub recounted_matches_in : List Match → ℕ → Games → List Match
+recounted_matches_in matches table score =
+    if is_complete matches then slice_index_or matches (table - 1) (open_match 0 0) ∷ []
+    else if is_complete (scored_slot matches table score) then matches
     else []
 
 abbrev pub matches_at : EventValue → ℕ → List Match
 matches_at event round = (slice_index_or event.stored (round - 1) (record { matches = [] })).matches
 
 -- none while the round stays open
-abbrev pub recounted : EventValue → Change → List Match
-recounted event (AddRound matches) = if is_counted matches then matches else []
-recounted event (SetScore round table score) = recounted_in (matches_at event round) table score
-recounted event _ = []
+abbrev pub recounted_matches : EventValue → Change → List Match
+recounted_matches event (AddRound matches) = if is_complete matches then matches else []
+recounted_matches event (SetScore round table score) = recounted_matches_in (matches_at event round) table score
+recounted_matches event _ = []
 
 -- ---- the round that counts now for those who missed it
 
 -- a score of a table: its round, where it completes it, and else 0
 abbrev pub completed_in : List Match → ℕ → ℕ → Games → ℕ
 completed_in matches round table score =
-    if is_counted matches then 0 else if is_counted (scored_slot matches table score) then round else 0
+    if is_complete matches then 0 else if is_complete (scored_slot matches table score) then round else 0
 
 -- a round that is added has been missed by nobody
-abbrev pub completed : EventValue → Change → ℕ
-completed event (SetScore round table score) = completed_in (matches_at event round) round table score
-completed event _ = 0
+abbrev pub completed_round : EventValue → Change → ℕ
+completed_round event (SetScore round table score) = completed_in (matches_at event round) round table score
+completed_round event _ = 0
 
 -- ---- the players
 
@@ -52,7 +52,7 @@ pub record Recounting : Type 0 where
   pub completed : ℕ
 
 abbrev pub recount_of : EventValue → Change → Recounting
-recount_of event change = record { matches = recounted event change; completed = completed event change }
+recount_of event change = record { matches = recounted_matches event change; completed = completed_round event change }
 
 abbrev pub sits : List Match → ℕ → Bool
 sits matches player = list_any (λ (m : Match). m.a == player || m.b == player) matches

@@ -9,7 +9,7 @@ use Rattle.er_event.specs.declared.matches.Match.{Match}
 use Rattle.er_event.specs.Event.{EventValue}
 use Rattle.er_event.specs.Name.{is_lawful_name}
 use Rattle.er_event.specs.Score.{is_swiss_score, is_playoff_score}
-use Rattle.er_event.specs.Bracket.{slot_at, following, is_over}
+use Rattle.er_event.specs.Bracket.{slot_at, stage_after, is_over}
 use Rattle.er_event.specs.Sound.{IsSoundButForSeeds}
 use Rattle.er_event.specs.Change.{has_name, stage_of, scored_slot, NamesStored, IsNextRound, IsOpening, after}
 
@@ -30,7 +30,7 @@ IsSafe event (AddBracket matches) = IsOpening event matches
 IsSafe event (SetBracketScore stage slot score next finished) =
     let played = scored_slot (stage_of event.bracket.stages stage) slot score in
     (m : Match) × (slot_at event stage slot ≡ Some m) × (m.score ≡ None) × IsTrue (is_playoff_score score)
-    × (next ≡ following played) × (finished ≡ is_over played)
+    × (next ≡ stage_after played) × (finished ≡ is_over played)
 
 -- a safe change keeps an event sound, but for its seeds
 abbrev pub ChangesKeepSound : Type 0

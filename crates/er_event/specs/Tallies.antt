@@ -7,7 +7,7 @@ use Rattle.er_event.specs.declared.tallies.Meeting.{Meeting}
 use Rattle.er_event.specs.declared.tallies.Tally.{Tally}
 use Rattle.er_event.specs.declared.totals.Totals.{Totals}
 use Rattle.er_event.specs.Event.{EventValue}
-use Rattle.er_event.specs.Round.{is_bye, is_counted}
+use Rattle.er_event.specs.Round.{is_bye, is_complete}
 use Rattle.er_event.specs.Totals.{totals}
 
 -- a player's, with what these totals give
@@ -18,8 +18,8 @@ tally_by come_to p = record { no = p.no; totals = come_to p.no; dropped = p.drop
 abbrev pub tallies : EventValue → List Tally
 tallies event = map (tally_by (totals event)) event.players
 
-abbrev pub counted_matches : List Round → List Match
-counted_matches rounds = flat_map (λ (r : Round). if is_counted r.matches then r.matches else []) rounds
+abbrev pub complete_matches : List Round → List Match
+complete_matches rounds = flat_map (λ (r : Round). if is_complete r.matches then r.matches else []) rounds
 
 -- the two of a match, the lesser number first, each with what these totals give
 abbrev pub meeting_by : (ℕ → Totals) → Match → Meeting
@@ -32,7 +32,7 @@ meeting_by come_to m = record {
 
 -- one for each match of the counted rounds, by round and table; a bye is no meeting
 abbrev pub meetings : EventValue → List Meeting
-meetings event = map (meeting_by (totals event)) (filter (λ m. not (is_bye m)) (counted_matches event.stored))
+meetings event = map (meeting_by (totals event)) (filter (λ m. not (is_bye m)) (complete_matches event.stored))
 
 -- what a row of totals can be read as
 pub record AreReadable (t : Totals) : Type 0 where

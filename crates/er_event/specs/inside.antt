@@ -5,4 +5,3 @@ pub mod Reading
 pub mod Seen
 pub mod Seats
 pub mod Played
-pub mod Joined

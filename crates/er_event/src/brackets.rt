@@ -1,7 +1,7 @@
 ghost use Rattle.std.specs.Prelude.{◌≡◌, ◌≢◌, ◌↔◌, ◌<◌, ◌/◌, ◌&&◌, IsTrue, All, AllPairs, Contains, IfOk, flat_map, length, option_map};
 ghost use Rattle.std.specs.List.{list_all, range_with_len};
 ghost use Rattle.er_event.specs.Match.{is_known, is_lawful_slot_score};
-ghost use Rattle.er_event.specs.Round.{is_counted, seats};
+ghost use Rattle.er_event.specs.Round.{is_complete, seats};
 ghost use Rattle.er_event.specs.Sound.{IsBracket};
 ghost use Rattle.er_event.specs.Bracket.{slot_in, next_stage, SameSlots, FollowOn, IsDecided, is_over};
 
@@ -25,7 +25,7 @@ pub fn is_over(stage: &[Match]) -> bool
 
 /// Whether the stage may be the last: where it is complete, it was the final.
 pub(crate) fn may_be_last(stage: &[Match]) -> bool
-    ensures { IsTrue result ↔ (IsTrue (is_counted stage.now) → length stage.now ≡ 1) }
+    ensures { IsTrue result ↔ (IsTrue (is_complete stage.now) → length stage.now ≡ 1) }
 {
     !is_complete(stage) || stage.len() == 1
 }
@@ -64,7 +64,7 @@ fn has_winners(stage: &[Match], next: &[Match]) -> bool
 /// Whether the next stage may come after this one.
 pub(crate) fn follows(stage: &[Match], next: &[Match]) -> bool
     ensures { IsTrue result
-        ↔ (IsTrue (is_counted stage.now) × (1 < length stage.now)
+        ↔ (IsTrue (is_complete stage.now) × (1 < length stage.now)
         × SameSlots next.now (next_stage stage.now)) }
 {
     is_complete(stage) && stage.len() > 1 && has_winners(stage, next)

@@ -2,10 +2,10 @@ ghost use Rattle.std.specs.Prelude.{◌≡◌, ◌≢◌, ◌↔◌, ◌≤◌, 
 ghost use Rattle.std.specs.Prelude.{option_map, length, find, List};
 ghost use Rattle.er_event.specs.declared.scores.Games.{Games};
 ghost use Rattle.er_event.specs.Round.{is_bye, match_at};
-ghost use Rattle.er_event.specs.Bracket.{slot_at, following, is_over};
+ghost use Rattle.er_event.specs.Bracket.{slot_at, stage_after, is_over};
 ghost use Rattle.er_event.specs.Score.{is_swiss_score, is_playoff_score};
 ghost use Rattle.er_event.specs.Sound.{AreLimits, AllRoundsDone, IsSoundButForSeeds};
-ghost use Rattle.er_event.specs.Change.{created, has_name, stage_of, scored_slot, Fits, IsNextRound, IsOpening};
+ghost use Rattle.er_event.specs.Change.{initial_event, has_name, stage_of, scored_slot, Fits, IsNextRound, IsOpening};
 ghost use Rattle.er_event.specs.declared.matches.Match.{Match};
 
 mod apply;
@@ -76,9 +76,9 @@ impl Model for Event {
 
     ghost Value = { EventValue };
 
-    ghost use Rattle.er_event.specs.inside.EventFields.{value_of, IsSoundInside};
+    ghost use Rattle.er_event.specs.inside.EventFields.{event_value, IsSoundInside};
 
-    ghost view = { value_of };
+    ghost view = { event_value };
 
     ghost invariant = { IsSoundInside };
 }
@@ -87,7 +87,7 @@ impl Event {
     /// An event with no player, whose Swiss rounds are 1 to 12, and whose playoff is of 2, 4 or 8 players, or 0 for none. It takes no
     /// memory.
     pub fn create(alloc: Global, name: Name, rounds: u8, cut: u8) -> Result<Event, Refusal>
-        ensures value { IfOk result (λ e. e ≡ created name rounds cut) }
+        ensures value { IfOk result (λ e. e ≡ initial_event name rounds cut) }
         ensures within { IsOk result ↔ AreLimits rounds cut }
         ensures refused { IfErr result (λ why. why ≡ Refusal.BadSetup) }
         ensures sound { IfOk result IsSoundButForSeeds }
@@ -216,7 +216,7 @@ impl Event {
         ensures fits { IfSome result (λ m. m.now.score ≡ None → (score : Games)
             → IsTrue (is_playoff_score score)
             → Fits self.now (Change.SetBracketScore stage slot score
-            (following (scored_slot (stage_of self.now.bracket.stages stage) slot score))
+            (stage_after (scored_slot (stage_of self.now.bracket.stages stage) slot score))
             (is_over (scored_slot (stage_of self.now.bracket.stages stage) slot score)))) }
     {
         slot_in(self.bracket.stages.as_slice(), stage, slot)

@@ -2,7 +2,7 @@ ghost use Rattle.std.specs.Prelude.{◌≡◌, ◌≢◌, ◌↔◌, ◌==◌, �
 ghost use Rattle.std.specs.List.{list_all, range_with_len};
 ghost use Rattle.er_event.specs.Bracket.{winner};
 ghost use Rattle.er_event.specs.Score.{bye_score};
-ghost use Rattle.er_event.specs.Round.{is_bye, is_counted, match_in, seats};
+ghost use Rattle.er_event.specs.Round.{is_bye, is_complete, match_in, seats};
 ghost use Rattle.er_event.specs.Rows.{reported_games};
 ghost use Rattle.er_event.specs.Match.{is_known, is_lawful_match, MayStand};
 
@@ -58,7 +58,7 @@ impl Match {
 
 /// Whether each match has its score.
 pub fn is_complete(matches: &[Match]) -> bool
-    ensures { result ≡ is_counted matches.now }
+    ensures { result ≡ is_complete matches.now }
 {
     matches.iter().all(|played| played.score.is_some())
 }

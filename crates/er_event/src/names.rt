@@ -31,16 +31,16 @@ pub struct Name {
 impl Model for Name {
     ghost use Rattle.std.specs.Prelude.{List, ℕ, ◌≡◌, take, length, IsTrue};
     ghost use Rattle.std.proofs.Common.{sym};
-    ghost use Rattle.er_event.specs.Name.{is_lawful_name, padded};
+    ghost use Rattle.er_event.specs.Name.{is_lawful_name, name_with_zeros};
 
     ghost Value = { List ℕ };
 
     ghost view = { λ n. take n.len n.bytes };
 
-    ghost invariant = { λ n. (n.bytes ≡ padded (take n.len n.bytes))
+    ghost invariant = { λ n. (n.bytes ≡ name_with_zeros (take n.len n.bytes))
         × (length (take n.len n.bytes) ≡ n.len) × IsTrue (is_lawful_name (take n.len n.bytes)) };
 
-    ghost inverse = { λ name. record { bytes = padded name; len = length name } };
+    ghost inverse = { λ name. record { bytes = name_with_zeros name; len = length name } };
 
     ghost inverse_ok = { λ n h i. record { bytes = sym h.0 i; len = h.1 i } };
 }

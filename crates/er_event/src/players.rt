@@ -3,7 +3,7 @@ ghost use Rattle.std.specs.Prelude.{IfSome};
 ghost use Rattle.std.specs.List.{list_all, range_with_len};
 ghost use Rattle.er_event.specs.Change.{has_name};
 ghost use Rattle.er_event.specs.Name.{is_lawful_name};
-ghost use Rattle.er_event.specs.inside.Joined.{joined_of};
+ghost use Rattle.er_event.specs.Results.{rounds_missed_of};
 ghost use Rattle.er_event.specs.Sound.{numbers, names, ArePlayers};
 ghost use Rattle.er_event.specs.inside.Reading.{Suits};
 
@@ -86,7 +86,7 @@ pub(crate) fn player_of(players: &[Player], number: u16) -> Option<&Player>
 /// How many rounds the player of this number missed, 0 where there is no such player.
 pub(crate) fn joined_of(players: &[Player], number: u16) -> u8
     requires numbered { numbers players.now ≡ range_with_len 1 (length players.now) }
-    ensures { result ≡ joined_of players.now number }
+    ensures { result ≡ rounds_missed_of players.now number }
 {
     match player_of(players, number) {
         Some(player) => player.joined,

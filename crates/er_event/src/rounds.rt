@@ -1,9 +1,9 @@
 ghost use Rattle.std.specs.Prelude.{◌≡◌, ◌↔◌, ◌-◌, ◌==◌, ◌||◌, ◌&&◌, nat_le, not, is_some, length, take, IsTrue, IfOk};
 ghost use Rattle.std.specs.List.{list_all, list_any, range_with_len};
 ghost use Rattle.er_event.specs.declared.events.Phase.TheVariants.{Swiss};
-ghost use Rattle.er_event.specs.Round.{is_bye, is_counted, is_same_pairing};
+ghost use Rattle.er_event.specs.Round.{is_bye, is_complete, is_same_pairing};
 ghost use Rattle.er_event.specs.Sound.{IsRound, AreRounds};
-ghost use Rattle.er_event.specs.inside.Reading.{MayFollow, is_absent, has_missed};
+ghost use Rattle.er_event.specs.inside.Reading.{MayFollow, is_absent, is_absent_from_missed};
 
 use crate::items::Items;
 use crate::matches::{Match, are_lawful, are_seated_once, is_complete};
@@ -20,7 +20,7 @@ pub struct Round {
 impl Round {
     /// Whether each match has its score.
     pub fn is_complete(&self) -> bool
-        ensures { result ≡ is_counted self.now.matches }
+        ensures { result ≡ is_complete self.now.matches }
     {
         is_complete(self.matches.as_slice())
     }
@@ -82,7 +82,7 @@ fn are_new(stored: &[Round], new: &Seats<'_>) -> bool
 
 /// Whether each match of the rounds has a score.
 pub(crate) fn are_counted(stored: &[Round]) -> bool
-    ensures { result ≡ list_all (λ r. is_counted r.matches) stored.now }
+    ensures { result ≡ list_all (λ r. is_complete r.matches) stored.now }
 {
     stored.iter().all(|round| round.is_complete())
 }
@@ -136,7 +136,7 @@ fn is_away(rounds: &[Round], player: u16) -> bool
 
 /// Whether the rounds that the player missed are stored, and the player sits in none of them.
 fn has_missed(rounds: &[Round], player: &Player) -> bool
-    ensures { result ≡ has_missed rounds.now player.now }
+    ensures { result ≡ is_absent_from_missed rounds.now player.now }
 {
     let joined = usize::from(player.joined);
     if joined > rounds.len() {
@@ -147,7 +147,7 @@ fn has_missed(rounds: &[Round], player: &Player) -> bool
 
 /// Whether the rounds that each player missed are stored, and nobody sits in a round that they missed.
 pub(crate) fn have_missed(rounds: &[Round], players: &[Player]) -> bool
-    ensures { result ≡ list_all (has_missed rounds.now) players.now }
+    ensures { result ≡ list_all (is_absent_from_missed rounds.now) players.now }
 {
     players.iter().all(|player| has_missed(rounds, player))
 }

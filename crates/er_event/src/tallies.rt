@@ -1,8 +1,10 @@
 ghost use Rattle.std.specs.Prelude.{◌≡◌, ◌≤◌, ◌↔◌, ℕ, [], IsTrue, IsFalse, All, ◌==◌, ◌||◌, ◌&&◌, nat_le, if◌then◌else◌, length};
 ghost use Rattle.er_event.specs.Change.{after, Fits};
-ghost use Rattle.er_event.specs.Appearances.{has_missed, own, appearances_from};
-ghost use Rattle.er_event.specs.Recounted.{recounted, recounted_in, completed, completed_in, sits, includes, recount_of};
-ghost use Rattle.er_event.specs.Round.{is_counted, IsAbsent};
+ghost use Rattle.er_event.specs.Results.{has_missed};
+ghost use Rattle.er_event.specs.inside.Played.{results_from};
+ghost use Rattle.er_event.specs.Recounted.{recounted_matches, recounted_matches_in, completed_round, completed_in, sits, includes};
+ghost use Rattle.er_event.specs.Recounted.{recount_of};
+ghost use Rattle.er_event.specs.Round.{is_complete, IsAbsent};
 ghost use Rattle.er_event.specs.Rows.{tally_rows};
 ghost use Rattle.er_event.specs.Sound.{IsSoundButForSeeds};
 ghost use Rattle.er_event.specs.Totals.{totals, totals_of};
@@ -38,7 +40,7 @@ pub struct Meeting {
 /// Which matches of a round count anew once the match of a table has this score.
 fn matches_to_recount_in(matches: &[Match], table: usize, score: Score) -> &[Match]
     requires { (1 ≤ table) × (table ≤ length matches.now) }
-    ensures { result.now ≡ recounted_in matches.now table score }
+    ensures { result.now ≡ recounted_matches_in matches.now table score }
 {
     if is_complete(matches) {
         &matches[table - 1..table]
@@ -51,7 +53,7 @@ fn matches_to_recount_in(matches: &[Match], table: usize, score: Score) -> &[Mat
 
 /// The matches of a round that is added, where they count at once.
 fn counted_at_once(matches: &[Match]) -> &[Match]
-    ensures { result.now ≡ (if is_counted matches.now then matches.now else []) }
+    ensures { result.now ≡ (if is_complete matches.now then matches.now else []) }
 {
     if is_complete(matches) { matches } else { &[] }
 }
@@ -152,11 +154,11 @@ impl Event {
     /// The matches that count anew with a change: none while their round stays open.
     fn matches_to_recount<'a>(&'a self, change: &'a Change) -> &'a [Match]
         requires { Fits self.now change.now }
-        ensures value { result.now ≡ recounted self.now change.now }
+        ensures value { result.now ≡ recounted_matches self.now change.now }
         ensures sound { IsSoundButForSeeds self.now }
         ensures others { (player : ℕ) → IsAbsent player result.now
-            → totals_of (own player (appearances_from 1 (after self.now change.now).stored))
-            ≡ totals_of (own player (appearances_from 1 self.now.stored)) }
+            → totals_of (results_from player 1 (after self.now change.now).stored)
+            ≡ totals_of (results_from player 1 self.now.stored) }
     {
         let stored = self.stored();
         match change {
@@ -180,7 +182,7 @@ impl Event {
     /// The round that the change completes, or 0 for none.
     fn completed(&self, change: &Change) -> u8
         requires { Fits self.now change.now }
-        ensures { result ≡ completed self.now change.now }
+        ensures { result ≡ completed_round self.now change.now }
     {
         match change {
             Change::SetScore {

@@ -2,14 +2,14 @@ ghost use Rattle.std.specs.Prelude.{◌≡◌, ◌≢◌, ℕ, List, [], ◌∷�
 ghost use Rattle.std.specs.Prelude.{filter, flat_map, slice_index_or, All, IfSome};
 ghost use Rattle.er_share.specs.declared.TheConstants.{MAX_ROUNDS};
 ghost use Rattle.er_event.specs.declared.rounds.Round.{Round};
-ghost use Rattle.er_event.specs.Appearances.{own, appearances_of_match, counted_appearances, appearances_from};
-ghost use Rattle.er_event.specs.Totals.{totals_of, totals_of_games, plus, missed_totals, totals};
+ghost use Rattle.er_event.specs.Totals.{totals_of, plus, missed_totals, totals};
 ghost use Rattle.std.specs.List.{range_with_len};
-ghost use Rattle.er_event.specs.inside.Joined.{joined_of};
+ghost use Rattle.er_event.specs.Results.{rounds_missed_of};
+ghost use Rattle.er_event.specs.inside.Played.{results_from};
 ghost use Rattle.er_event.specs.Sound.{numbers};
-ghost use Rattle.er_event.specs.Round.{is_counted};
+ghost use Rattle.er_event.specs.Round.{is_complete};
 ghost use Rattle.er_event.specs.Change.{scored_slot, after, Fits};
-ghost use Rattle.er_event.specs.inside.Seen.{AreSeen, AreFew, AreOver, IsSeatedOnce, HasTable, rescored};
+ghost use Rattle.er_event.specs.inside.Seen.{AreSeen, AreFew, AreOver, IsSeatedOnce, RoundHasTable, rounds_with_score, totals_of_games};
 
 mod all;
 
@@ -127,7 +127,7 @@ fn match_with(matches: &[Match], at: usize, table: usize, score: Score) -> Match
 /// Whether the round is complete once the match of a table has this score.
 pub(crate) fn is_complete_with(matches: &[Match], table: usize, score: Score) -> bool
     requires table { (1 ≤ table) × (table ≤ length matches.now) }
-    ensures { result ≡ is_counted (scored_slot matches.now table score) }
+    ensures { result ≡ is_complete (scored_slot matches.now table score) }
 {
     for at in 0..matches.len() {
         if match_with(matches, at, table, score).score.is_none() {
@@ -148,7 +148,7 @@ struct NewScore {
 /// How many of the first rounds are complete.
 fn complete_of(rounds: &[Round], first: u8) -> usize
     requires { first ≤ length rounds.now }
-    ensures { result ≡ length (filter (λ r. is_counted r.matches) (take first rounds.now)) }
+    ensures { result ≡ length (filter (λ r. is_complete r.matches) (take first rounds.now)) }
 {
     rounds[..usize::from(first)]
         .iter()
@@ -159,10 +159,11 @@ fn complete_of(rounds: &[Round], first: u8) -> usize
 /// Whether one of the rounds is complete with the new score.
 fn is_complete_at(rounds: &[Round], at: usize, new: &NewScore) -> bool
     requires within { at < length rounds.now }
-    requires table { HasTable rounds.now new.now.place new.now.table }
+    requires table { RoundHasTable rounds.now new.now.place new.now.table }
     ensures { (round : Round)
-        → round ≡ slice_index_or (rescored rounds.now new.now.place new.now.table new.now.score) at
-        round → result ≡ is_counted round.matches }
+        → round ≡ slice_index_or
+        (rounds_with_score rounds.now new.now.place new.now.table new.now.score) at
+        round → result ≡ is_complete round.matches }
 {
     let matches = rounds[at].matches.as_slice();
     if at == new.place {
@@ -175,9 +176,9 @@ fn is_complete_at(rounds: &[Round], at: usize, new: &NewScore) -> bool
 /// How many of the first rounds are complete with the new score.
 fn complete_with(rounds: &[Round], first: u8, new: &NewScore) -> usize
     requires few { first ≤ length rounds.now }
-    requires table { HasTable rounds.now new.now.place new.now.table }
-    ensures { result ≡ length (filter (λ r. is_counted r.matches)
-        (take first (rescored rounds.now new.now.place new.now.table new.now.score))) }
+    requires table { RoundHasTable rounds.now new.now.place new.now.table }
+    ensures { result ≡ length (filter (λ r. is_complete r.matches)
+        (take first (rounds_with_score rounds.now new.now.place new.now.table new.now.score))) }
 {
     let mut count = 0;
     for at in 0..usize::from(first) {
@@ -190,7 +191,7 @@ fn complete_with(rounds: &[Round], first: u8, new: &NewScore) -> usize
 fn joined_with(players: &[Player], newest: u8, player: u16) -> u8
     requires { numbers players.now ≡ range_with_len 1 (length players.now) }
     ensures { (new : Player) → new.no ≡ 1 + length players.now → new.joined ≡ newest
-        → result ≡ joined_of (players.now ++ new ∷ []) player }
+        → result ≡ rounds_missed_of (players.now ++ new ∷ []) player }
 {
     if usize::from(player) == players.len() + 1 {
         newest
@@ -212,7 +213,7 @@ impl Event {
     /// How many rounds the player of this number has missed after a change.
     fn joined_after(&self, change: &Change, player: u16) -> u8
         requires { Fits self.now change.now }
-        ensures value { result ≡ joined_of (after self.now change.now).players player }
+        ensures value { result ≡ rounds_missed_of (after self.now change.now).players player }
         ensures few { result ≤ length self.now.stored }
     {
         match change {
@@ -227,7 +228,7 @@ impl Event {
     fn complete_after(&self, change: &Change, first: u8) -> usize
         requires fits { Fits self.now change.now }
         requires few { first ≤ length self.now.stored }
-        ensures { result ≡ length (filter (λ r. is_counted r.matches)
+        ensures { result ≡ length (filter (λ r. is_complete r.matches)
             (take first (after self.now change.now).stored)) }
     {
         let stored = self.stored();
@@ -252,7 +253,7 @@ impl Event {
     fn played_after(&self, change: &Change, player: PlayerNo) -> Totals
         requires { Fits self.now change.now }
         ensures { result
-            ≡ totals_of (own player (appearances_from 1 (after self.now change.now).stored)) }
+            ≡ totals_of (results_from player 1 (after self.now change.now).stored) }
     {
         self.all_played_after(change)[usize::from(player.get())]
     }

@@ -48,8 +48,8 @@ slip_text row = compact_text (slip_data row)
 abbrev pub byte_below : ℕ → Option ℕ
 byte_below n = if nat_lt n 256 then Some n else None
 
-abbrev pub entry_of : Data → Option ℕ
-entry_of d = option_and_then byte_below (option_and_then as_u64 (as_number d))
+abbrev pub number_of_games : Data → Option ℕ
+number_of_games d = option_and_then byte_below (option_and_then as_u64 (as_number d))
 
 abbrev pub games_with : Option ℕ → Option ℕ → Option ℕ → Option Games
 games_with (Some x) (Some y) (Some d) = Some (record { x = x; y = y; d = d })
@@ -63,7 +63,7 @@ three_values _ = None
 
 -- the games that three values are, each a number from 0 to 255
 abbrev pub games_in_values : Data × Data × Data → Option Games
-games_in_values it = games_with (entry_of it.0) (entry_of it.1) (entry_of it.2)
+games_in_values it = games_with (number_of_games it.0) (number_of_games it.1) (number_of_games it.2)
 
 abbrev pub games_in : Data → Option Games
 games_in d = option_and_then games_in_values (option_and_then three_values (as_object d))

@@ -3,7 +3,7 @@ ghost use Rattle.std.specs.String.{string_bytes};
 ghost use Rattle.serde_json.specs.Written.{compact_text};
 ghost use Rattle.serde_json.specs.View.{view, members_view};
 ghost use Rattle.er_json.specs.Slip.{games_data, score_data, side_data, second_data, slip_with, slip_data, slip_text};
-ghost use Rattle.er_json.specs.Slip.{entry_of, three_values, games_in, slip_games};
+ghost use Rattle.er_json.specs.Slip.{number_of_games, three_values, games_in, slip_games};
 
 use er_event::{Games, Name, PlayerNo, Score, SlipRow};
 use serde_json::{Map, Value, json};
@@ -87,7 +87,7 @@ pub fn slip_json(alloc: Global, row: &SlipRow) -> Result<Vec<u8>, AllocError>
 }
 
 fn byte_of(value: &Value) -> Option<u8>
-    ensures { result ≡ entry_of (view value.now) }
+    ensures { result ≡ number_of_games (view value.now) }
 {
     u8::try_from(value.as_u64()?).ok()
 }

@@ -42,9 +42,9 @@ impl From<AllocError> for PairFault {
 
 impl From<PairFault> for Refusal {
     ghost use Rattle.std.specs.Prelude.{◌≡◌};
-    ghost use Rattle.er_pair.specs.Fault.{refusal_of};
+    ghost use Rattle.er_pair.specs.Fault.{pair_refusal};
 
-    ghost from_gives = { λ fault why. why ≡ refusal_of fault };
+    ghost from_gives = { λ fault why. why ≡ pair_refusal fault };
 
     fn from(fault: PairFault) -> Refusal {
         match fault {

@@ -2,13 +2,13 @@
 use Rattle.std.proofs.{lemmas.Grind.common_steps, Common.{◌≡◌, ℕ, List, ◌++◌, refl, ◌∙◌, ap, arith, decimal}, Padding.padded_integral_right}
 use Rattle.std.proofs.Padding.{padded_integral_zeros}
 use Rattle.std.specs.Fmt.{styled_decimal, format_spec}
-use Rattle.er_paper.specs.Column.{right, two_digits}
+use Rattle.er_paper.specs.Column.{right_aligned, two_digits}
 
 -- `{:>4}` and `{:>3}`
-pub right_4 : (n : ℕ) → styled_decimal (format_spec 32 3 0 4 18446744073709551615) n ≡ right 4 n
+pub right_4 : (n : ℕ) → styled_decimal (format_spec 32 3 0 4 18446744073709551615) n ≡ right_aligned 4 n
 right_4 n = grind (arith, common_steps, padded_integral_right)
 
-pub right_3 : (n : ℕ) → styled_decimal (format_spec 32 3 0 3 18446744073709551615) n ≡ right 3 n
+pub right_3 : (n : ℕ) → styled_decimal (format_spec 32 3 0 3 18446744073709551615) n ≡ right_aligned 3 n
 right_3 n = grind (arith, common_steps, padded_integral_right)
 
 -- `{:02}`

@@ -6,7 +6,7 @@ use Rattle.er_paper.specs.Csv.{csv_text}
 use Rattle.er_event.specs.{declared.players.Player.Player, declared.matches.Match.Match, declared.rounds.Round.Round}
 use Rattle.er_event.specs.declared.scores.Games.{Games}
 use Rattle.er_paper.specs.{declared.imports.CsvFault.TheVariants.{BadHeading, BadRow}, declared.imports.PlayerLine.PlayerLine}
-use Rattle.er_paper.specs.{Csv.HasRecords, Reading.{number_of, players_of, results_of}}
+use Rattle.er_paper.specs.{Csv.HasRecords, Reading.{number_of, player_lines, result_lines}}
 use Rattle.er_paper.specs.Tables.{players_heading, player_fields, results_heading, rounds_table}
 use Rattle.csv.specs.declared.parser.State.TheVariants as st
 
@@ -54,28 +54,28 @@ abbrev line : ℕ → List ℕ → Bool → PlayerLine
 line number name dropped = record { no = number; name = name; dropped = dropped }
 
 -- a name may stand twice
-pub names_read : players_of ((codes "name" ∷ []) ∷ (codes "Ana" ∷ []) ∷ (codes "Bo" ∷ []) ∷ (codes "Ana" ∷ []) ∷ []) ≡ Ok
+pub names_read : player_lines ((codes "name" ∷ []) ∷ (codes "Ana" ∷ []) ∷ (codes "Bo" ∷ []) ∷ (codes "Ana" ∷ []) ∷ []) ≡ Ok
     (line 1 (codes "Ana") false ∷ line 2 (codes "Bo") false ∷ line 3 (codes "Ana") false ∷ [])
 unfolding is_utf8 chars encode_utf8 digits
 names_read = refl
 
-pub players_read : players_of (players_heading ∷ (codes "1" ∷ codes "Ana" ∷ codes "0" ∷ []) ∷ (codes "2" ∷ codes "Bo" ∷ codes "1" ∷ [])
+pub players_read : player_lines (players_heading ∷ (codes "1" ∷ codes "Ana" ∷ codes "0" ∷ []) ∷ (codes "2" ∷ codes "Bo" ∷ codes "1" ∷ [])
     ∷ []) ≡ Ok (line 1 (codes "Ana") false ∷ line 2 (codes "Bo") true ∷ [])
 unfolding is_utf8 chars encode_utf8 digits
 players_read = refl
 
-pub nothing_read : players_of [] ≡ Err BadHeading
+pub nothing_read : player_lines [] ≡ Err BadHeading
 nothing_read = refl
 
-pub other_heading : players_of ((codes "names" ∷ []) ∷ (codes "Ana" ∷ []) ∷ []) ≡ Err BadHeading
+pub other_heading : player_lines ((codes "names" ∷ []) ∷ (codes "Ana" ∷ []) ∷ []) ≡ Err BadHeading
 other_heading = refl
 
-pub other_number : players_of (players_heading ∷ (codes "2" ∷ codes "Ana" ∷ codes "0" ∷ []) ∷ []) ≡ Err (BadRow 1)
+pub other_number : player_lines (players_heading ∷ (codes "2" ∷ codes "Ana" ∷ codes "0" ∷ []) ∷ []) ≡ Err (BadRow 1)
 unfolding is_utf8 chars encode_utf8 digits
 other_number = refl
 
 -- the first bad row is named
-pub second_and_third_bad : players_of ((codes "name" ∷ []) ∷ (codes "Ana" ∷ []) ∷ ([] ∷ []) ∷ ([] ∷ []) ∷ []) ≡ Err (BadRow 2)
+pub second_and_third_bad : player_lines ((codes "name" ∷ []) ∷ (codes "Ana" ∷ []) ∷ ([] ∷ []) ∷ ([] ∷ []) ∷ []) ≡ Err (BadRow 2)
 unfolding is_utf8 chars encode_utf8 digits
 second_and_third_bad = refl
 
@@ -88,7 +88,7 @@ numbers_read = refl
 abbrev row : List ℕ → List ℕ → List ℕ → List ℕ → List ℕ → List ℕ → List ℕ → List (List ℕ)
 row round table a b x y d = round ∷ table ∷ a ∷ b ∷ x ∷ y ∷ d ∷ []
 
-pub results_read : results_of (results_heading ∷ row (codes "1") (codes "1") (codes "4") (codes "2") (codes "2") (codes "0")
+pub results_read : result_lines (results_heading ∷ row (codes "1") (codes "1") (codes "4") (codes "2") (codes "2") (codes "0")
     (codes "0") ∷ row (codes "1") (codes "0") (codes "3") (codes "0") (codes "2") (codes "0") (codes "0") ∷ row (codes "12") (codes "512")
     (codes "512") (codes "512") [] [] [] ∷ [])
     ≡ Ok (record { round = 1; table = 1; a = 4; b = 2; score = Some (games 2 0 0) } ∷ record {
@@ -100,11 +100,11 @@ pub results_read : results_of (results_heading ∷ row (codes "1") (codes "1") (
     } ∷ record { round = 12; table = 512; a = 512; b = 512; score = None } ∷ [])
 results_read = refl
 
-pub heading_of_players : results_of (players_heading ∷ []) ≡ Err BadHeading
+pub heading_of_players : result_lines (players_heading ∷ []) ≡ Err BadHeading
 heading_of_players = refl
 
 -- no lawful score, a part of one, a thirteenth round, round 0, table 513, player 0, and player 513 as either
-pub no_results : map (λ fields. results_of (results_heading ∷ fields ∷ []))
+pub no_results : map (λ fields. result_lines (results_heading ∷ fields ∷ []))
     (row (codes "1") (codes "1") (codes "4") (codes "2") (codes "2") (codes "2") (codes "0") ∷ row (codes "1") (codes "1") (codes "4")
     (codes "2") (codes "2") (codes "2") []
     ∷ row (codes "13") (codes "1") (codes "4") (codes "2") [] [] [] ∷ row (codes "0") (codes "1") (codes "4") (codes "2") [] [] [] ∷ row

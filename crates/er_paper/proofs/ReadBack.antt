@@ -15,7 +15,8 @@ use Rattle.er_event.specs.{Event.EventValue, Sound.{IsRound, IsSoundButForSeeds,
 use Rattle.er_paper.specs.{declared.imports.CsvFault.CsvFault, declared.imports.PlayerLine.PlayerLine}
 use Rattle.er_paper.specs.{declared.imports.ResultLine.ResultLine, Csv.HasRecords, Tables.{players_heading, player_fields, players_table}}
 use Rattle.er_paper.specs.Tables.{results_heading, score_fields, result_fields, round_table, rounds_table, results_table}
-use Rattle.er_paper.specs.{Reading.{lines_from, with_line, full_line, players_of, score_of, result_of, results_of}, ReadBack.line_of_player}
+use Rattle.er_paper.specs.Reading.{lines_from, with_line, full_line, player_lines, score_of, result_of, result_lines}
+use Rattle.er_paper.specs.ReadBack.{line_of_player}
 use Rattle.er_paper.specs.ReadBack.{line_of_match, lines_of_round, lines_of_rounds, exported_players, exported_results, PlayersReadBack}
 use Rattle.er_paper.specs.ReadBack.{ResultsReadBack}
 use Rattle.er_paper.proofs.{Fields.within-decimal, Rows.{back, one_list}}
@@ -64,7 +65,7 @@ players_back (p ∷ ps) k numbered few lawful =
     ap₂ (λ (o : Option PlayerLine) (r : Result (List PlayerLine) CsvFault). with_line k o r) read
     (players_back ps (k + 1) later (omega arith) lawful.1)
 
-players_as : (event : EventValue) → IsSoundButForSeeds event → players_of (players_table event) ≡ Ok (exported_players event)
+players_as : (event : EventValue) → IsSoundButForSeeds event → player_lines (players_table event) ≡ Ok (exported_players event)
 players_as event sound = grind (arith, common_steps, players_back, recursion_from_All)
 
 pub players_read_back : PlayersReadBack
@@ -73,7 +74,7 @@ players_read_back event sound =
     let same = ap (λ rs. players_heading ∷ rs) (players_same event.players) in
     let read = players_as event sound in (
       (players_table event, records_at (players_table event) plain same, sym read),
-      λ result (rows, has, is). is ∙ ap players_of (records_once (players_table event) rows plain same has) ∙ read,
+      λ result (rows, has, is). is ∙ ap player_lines (records_once (players_table event) rows plain same has) ∙ read,
     )
 
 -- ---- results
@@ -187,7 +188,7 @@ all_rounds_listed : (players : ℕ) (rounds : List Round) → players ≤ 512
 all_rounds_listed players [] few sound = tt
 all_rounds_listed players (r ∷ later) few sound = (round_listed players r few sound.0, all_rounds_listed players later few sound.1)
 
-results_as : (event : EventValue) → IsSoundButForSeeds event → results_of (results_table event) ≡ Ok (exported_results event)
+results_as : (event : EventValue) → IsSoundButForSeeds event → result_lines (results_table event) ≡ Ok (exported_results event)
 results_as event sound =
     let each = subst (λ (known : List ℕ). All (λ (r : Round). IsRound known r.matches) event.stored) sound.players.numbered
     sound.rounds.each in
@@ -202,5 +203,5 @@ results_read_back event sound =
     let same = ap (λ rs. results_heading ∷ rs) (rounds_same event.stored 1) in
     let read = results_as event sound in (
       (results_table event, records_at (results_table event) plain same, sym read),
-      λ result (rows, has, is). is ∙ ap results_of (records_once (results_table event) rows plain same has) ∙ read,
+      λ result (rows, has, is). is ∙ ap result_lines (records_once (results_table event) rows plain same has) ∙ read,
     )

@@ -8,12 +8,12 @@ use Rattle.er_event.specs.Event.{EventValue}
 use Rattle.er_event.specs.Slip.{name_of}
 
 -- a number in decimal, with spaces before it up to the width
-abbrev pub right : ℕ → ℕ → List ℕ
-right width n = replicate (width - length (decimal n)) 32 ++ decimal n
+abbrev pub right_aligned : ℕ → ℕ → List ℕ
+right_aligned width n = replicate (width - length (decimal n)) 32 ++ decimal n
 
 -- a text with spaces after it up to the width
-abbrev pub left : ℕ → List ℕ → List ℕ
-left width text = text ++ replicate (width - length text) 32
+abbrev pub left_aligned : ℕ → List ℕ → List ℕ
+left_aligned width text = text ++ replicate (width - length text) 32
 
 -- a number below a hundred in two digits
 abbrev pub two_digits : ℕ → List ℕ
@@ -21,7 +21,7 @@ two_digits n = replicate (2 - length (decimal n)) 48 ++ decimal n
 
 -- whole percents in three places, a point, and two digits
 abbrev pub percent_of : ℕ → List ℕ
-percent_of n = right 3 (n / 100) ++ (46 ∷ two_digits (n % 100))
+percent_of n = right_aligned 3 (n / 100) ++ (46 ∷ two_digits (n % 100))
 
 -- a space, and the share as a percentage
 abbrev pub percent : ℕ → List ℕ

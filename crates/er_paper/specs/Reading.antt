@@ -54,33 +54,33 @@ lines_from line row (fields ∷ later) = with_line row (line row fields) (lines_
 
 -- ---- players
 
-abbrev pub player_line : ℕ → List ℕ → Option ℕ → Option PlayerLine
-player_line place name flag =
+abbrev pub lawful_player_line : ℕ → List ℕ → Option ℕ → Option PlayerLine
+lawful_player_line place name flag =
     if nat_le place MAX_PLAYERS && is_lawful_name name
     then option_map (λ f. record { no = place; name = name; dropped = f == 1 }) flag else None
 
 -- The number is the row's place. A row after the 512th is bad.
 abbrev pub full_line : ℕ → List (List ℕ) → Option PlayerLine
 full_line place (number ∷ name ∷ dropped ∷ []) =
-    option_and_then (λ n. player_line place name (number_within 0 1 dropped)) (number_within place place number)
+    option_and_then (λ n. lawful_player_line place name (number_within 0 1 dropped)) (number_within place place number)
 full_line place _ = None
 
 -- numbered by place, and nobody dropped
 abbrev pub name_line : ℕ → List (List ℕ) → Option PlayerLine
-name_line place (name ∷ []) = player_line place name (Some 0)
+name_line place (name ∷ []) = lawful_player_line place name (Some 0)
 name_line place _ = None
 
 -- the heading, and then the lines in turn
-abbrev pub players_of : List (List (List ℕ)) → Result (List PlayerLine) CsvFault
-players_of [] = Err BadHeading
-players_of (heading ∷ rows) =
+abbrev pub player_lines : List (List (List ℕ)) → Result (List PlayerLine) CsvFault
+player_lines [] = Err BadHeading
+player_lines (heading ∷ rows) =
     if are_fields heading players_heading then lines_from full_line 1 rows
     else if are_fields heading (codes "name" ∷ []) then lines_from name_line 1 rows
     else Err BadHeading
 
 -- what the bytes are read as
 abbrev pub ReadsPlayers : List ℕ → Result (List PlayerLine) CsvFault → Type 0
-ReadsPlayers bytes result = (rows : List (List (List ℕ))) × HasRecords bytes rows × (result ≡ players_of rows)
+ReadsPlayers bytes result = (rows : List (List (List ℕ))) × HasRecords bytes rows × (result ≡ player_lines rows)
 
 -- ---- results
 
@@ -105,9 +105,9 @@ result_of (round ∷ table ∷ a ∷ b ∷ x ∷ y ∷ d ∷ []) =
     (number_within 1 MAX_PLAYERS a) (number_within 0 MAX_PLAYERS b) (score_of x y d)
 result_of _ = None
 
-abbrev pub results_of : List (List (List ℕ)) → Result (List ResultLine) CsvFault
-results_of [] = Err BadHeading
-results_of (heading ∷ rows) = if are_fields heading results_heading then lines_from (λ place. result_of) 1 rows else Err BadHeading
+abbrev pub result_lines : List (List (List ℕ)) → Result (List ResultLine) CsvFault
+result_lines [] = Err BadHeading
+result_lines (heading ∷ rows) = if are_fields heading results_heading then lines_from (λ place. result_of) 1 rows else Err BadHeading
 
 abbrev pub ReadsResults : List ℕ → Result (List ResultLine) CsvFault → Type 0
-ReadsResults bytes result = (rows : List (List (List ℕ))) × HasRecords bytes rows × (result ≡ results_of rows)
+ReadsResults bytes result = (rows : List (List (List ℕ))) × HasRecords bytes rows × (result ≡ result_lines rows)

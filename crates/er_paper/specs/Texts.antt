@@ -11,17 +11,17 @@ use Rattle.er_event.specs.Bracket.{champion}
 use Rattle.er_rank.specs.declared.rows.Row.{Row}
 use Rattle.er_rank.specs.Standings.{AreStandings}
 use Rattle.er_event.specs.Slip.{name_of}
-use Rattle.er_paper.specs.Column.{right, percent, mark, opponent_name, left, score_text}
+use Rattle.er_paper.specs.Column.{right_aligned, percent, mark, opponent_name, left_aligned, score_text}
 
 abbrev pub player_line : Player → List ℕ
-player_line p = right 4 p.no ++ (32 ∷ (mark p.dropped ++ (32 ∷ (p.name ++ (10 ∷ [])))))
+player_line p = right_aligned 4 p.no ++ (32 ∷ (mark p.dropped ++ (32 ∷ (p.name ++ (10 ∷ [])))))
 
 abbrev pub players_text : EventValue → List ℕ
 players_text event = codes "  No D Name" ++ (10 ∷ flat_map player_line event.players)
 
 -- rank, number and points
 abbrev pub row_numbers : Row → List ℕ
-row_numbers row = right 4 row.rank ++ (32 ∷ (right 4 row.player ++ (32 ∷ right 3 row.points)))
+row_numbers row = right_aligned 4 row.rank ++ (32 ∷ (right_aligned 4 row.player ++ (32 ∷ right_aligned 3 row.points)))
 
 abbrev pub row_name : EventValue → Row → List ℕ
 row_name event row = 32 ∷ (mark row.dropped ++ (32 ∷ (name_of event row.player ++ (10 ∷ []))))
@@ -44,13 +44,13 @@ OneStandingsText event bytes = (other : List ℕ) → IsStandingsText event othe
 
 -- table and numbers
 abbrev pub pairing_numbers : ℕ → Match → List ℕ
-pairing_numbers table m = right 4 table ++ (32 ∷ (right 4 m.a ++ (32 ∷ (right 4 m.b ++ (32 ∷ [])))))
+pairing_numbers table m = right_aligned 4 table ++ (32 ∷ (right_aligned 4 m.a ++ (32 ∷ (right_aligned 4 m.b ++ (32 ∷ [])))))
 
 abbrev pub pairing_names : EventValue → Match → List ℕ
 pairing_names event m = 32 ∷ (name_of event m.a ++ (32 ∷ (45 ∷ (32 ∷ (opponent_name event m.b ++ (10 ∷ []))))))
 
 abbrev pub pairing_line : EventValue → ℕ → Match → List ℕ
-pairing_line event table m = pairing_numbers table m ++ (left 5 (score_text m.score) ++ pairing_names event m)
+pairing_line event table m = pairing_numbers table m ++ (left_aligned 5 (score_text m.score) ++ pairing_names event m)
 
 abbrev pub table_line : EventValue → ℕ × Match → List ℕ
 table_line event numbered = pairing_line event (table_of numbered) numbered.1
@@ -66,7 +66,7 @@ pairings_text event round =
 
 -- the stage, and then as a table is printed
 abbrev pub slot_line : EventValue → ℕ → ℕ × Match → List ℕ
-slot_line event stage numbered = right 4 stage ++ (32 ∷ pairing_line event numbered.0 numbered.1)
+slot_line event stage numbered = right_aligned 4 stage ++ (32 ∷ pairing_line event numbered.0 numbered.1)
 
 abbrev pub stage_lines : EventValue → ℕ → List Match → List ℕ
 stage_lines event stage matches = flat_map (slot_line event stage) (numbered_from 1 matches)

@@ -1,13 +1,14 @@
 ghost use Rattle.std.specs.Prelude.{◌≡◌, ◌++◌, OnOk, string_bytes};
 ghost use Rattle.er_event.specs.Slip.{name_of};
-ghost use Rattle.er_paper.specs.Column.{left, mark};
+ghost use Rattle.er_paper.specs.Column.{left_aligned, mark};
 
 use er_event::Event;
 use std::alloc::AllocError;
 
 /// Appends the part, and spaces after it up to the width in bytes.
 pub fn push_left(text: &mut String, part: &str, width: usize) -> Result<(), AllocError>
-    ensures { OnOk result (string_bytes text.new ≡ string_bytes text.old ++ left width part.now) }
+    ensures { OnOk result
+        (string_bytes text.new ≡ string_bytes text.old ++ left_aligned width part.now) }
 {
     text.push_str(part)?;
     for _place in part.len()..width {

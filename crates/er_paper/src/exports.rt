@@ -1,7 +1,7 @@
 ghost use Rattle.std.specs.Prelude.{◌≡◌, ◌+◌, ◌^◌, ◌<◌, ◌++◌, ◌∷◌, ℕ, [], IfOk, OnOk, map};
 ghost use Rattle.er_paper.specs.Csv.{csv_text};
 ghost use Rattle.csv.specs.Writing.{default_writer, row_text};
-ghost use Rattle.er_paper.specs.inside.Writer.{IsPlainWriter, written};
+ghost use Rattle.er_paper.specs.inside.Writer.{IsPlainWriter, written_bytes};
 ghost use Rattle.er_paper.specs.Tables.{player_fields, players_csv, result_fields, round_table, rounds_table, results_csv};
 
 use crate::pairings::table_at;
@@ -12,7 +12,7 @@ use std::alloc::{AllocError, Global};
 fn push_fields(table: &mut Writer<Vec<u8>>, fields: &[&[u8]]) -> Result<(), AllocError>
     requires { IsPlainWriter table.old }
     ensures plain { OnOk result (IsPlainWriter table.new) }
-    ensures text { OnOk result (written table.new ≡ written table.old
+    ensures text { OnOk result (written_bytes table.new ≡ written_bytes table.old
         ++ row_text default_writer (map (λ f. f.now) fields.now)) }
 {
     match table.write_fields(fields) {
@@ -28,7 +28,7 @@ fn push_player(
 ) -> Result<(), AllocError>
     requires { IsPlainWriter table.old }
     ensures plain { OnOk result (IsPlainWriter table.new) }
-    ensures text { OnOk result (written table.new ≡ written table.old
+    ensures text { OnOk result (written_bytes table.new ≡ written_bytes table.old
         ++ row_text default_writer (player_fields player.now)) }
 {
     let number = format!(in alloc; "{}", player.no.get())?;
@@ -44,7 +44,7 @@ fn push_player(
 /// The text that was written.
 fn finish(table: Writer<Vec<u8>>) -> Result<Vec<u8>, AllocError>
     requires { IsPlainWriter table }
-    ensures { IfOk result (λ text. text.items ≡ written table) }
+    ensures { IfOk result (λ text. text.items ≡ written_bytes table) }
 {
     match table.into_inner() {
         Ok(text) => Ok(text),
@@ -76,7 +76,7 @@ fn push_result(
     requires plain { IsPlainWriter table.old }
     requires place { place < 2 ^ 63 }
     ensures plain { OnOk result (IsPlainWriter table.new) }
-    ensures text { OnOk result (written table.new ≡ written table.old
+    ensures text { OnOk result (written_bytes table.new ≡ written_bytes table.old
         ++ row_text default_writer (result_fields round (1 + place, m.now))) }
 {
     let number = table_at(place, m);
@@ -122,7 +122,7 @@ fn push_round(
 ) -> Result<(), AllocError>
     requires { IsPlainWriter table.old }
     ensures plain { OnOk result (IsPlainWriter table.new) }
-    ensures text { OnOk result (written table.new ≡ written table.old
+    ensures text { OnOk result (written_bytes table.new ≡ written_bytes table.old
         ++ csv_text (round_table round matches.now)) }
 {
     for (place, m) in matches.iter().enumerate() {
@@ -138,7 +138,7 @@ fn push_rounds(
 ) -> Result<(), AllocError>
     requires { IsPlainWriter table.old }
     ensures plain { OnOk result (IsPlainWriter table.new) }
-    ensures text { OnOk result (written table.new ≡ written table.old
+    ensures text { OnOk result (written_bytes table.new ≡ written_bytes table.old
         ++ csv_text (rounds_table 1 rounds.now)) }
 {
     for (place, round) in rounds.iter().enumerate() {

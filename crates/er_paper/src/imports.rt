@@ -4,7 +4,8 @@ ghost use Rattle.std.specs.Char.{is_ascii_digit};
 ghost use Rattle.er_paper.specs.Tables.{players_heading, results_heading};
 ghost use Rattle.csv.specs.Records.{fields_of};
 ghost use Rattle.er_event.specs.declared.players.TheConstants.{MAX_PLAYERS};
-ghost use Rattle.er_paper.specs.Reading.{number_of, number_within, player_line, full_line, name_line, lines_from, are_fields, ReadsPlayers};
+ghost use Rattle.er_paper.specs.Reading.{number_of, number_within, lawful_player_line, full_line, name_line, lines_from, are_fields};
+ghost use Rattle.er_paper.specs.Reading.{ReadsPlayers};
 ghost use Rattle.er_paper.specs.Reading.{score_of, result_of, ReadsResults};
 ghost use Rattle.er_paper.specs.inside.Lines.{chosen_line};
 
@@ -97,7 +98,7 @@ fn number_within(low: usize, high: usize, field: &[u8]) -> Option<usize>
 /// The player of this place, where the name is lawful and there is room.
 fn player_line(place: usize, name: &[u8], flag: Option<usize>) -> Option<PlayerLine>
     requires { 1 ≤ place }
-    ensures { result ≡ player_line place name.now flag }
+    ensures { result ≡ lawful_player_line place name.now flag }
 {
     let dropped = flag? == 1;
     let no = u16::try_from(place).ok().and_then(PlayerNo::try_new)?;

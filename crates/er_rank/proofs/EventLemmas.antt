@@ -1,53 +1,51 @@
 -- The tallies and the meetings of a sound event keep the limits.
-use Rattle.std.proofs.{lemmas.Grind.common_steps, Common.{◌≡◌, ℕ, ◌*◌, ◌≤◌, ◌==◌, min, max, suc, Bool, List, [], ◌∷◌, map, filter, length}}
-use Rattle.std.proofs.{Common.{sum_by, get_or, All, Option, refl, sym, ap, ◌∙◌, arith}, lemmas.Bool.not-true, lemmas.List.length-map}
-use Rattle.std.proofs.{lemmas.List.Elements.{All-map, All-filter, filter_passes}, lemmas.List.Sums.{sum_by-cons, length-filter}}
+use Rattle.std.proofs.{lemmas.Grind.common_steps, Common.{◌≡◌, ℕ, ◌*◌, ◌≤◌, min, max, suc, List, [], ◌∷◌, map, filter, length}}
+use Rattle.std.proofs.{Common.{sum_by, get_or, All, refl, sym, ap, ◌∙◌, arith}, lemmas.Bool.not-true, lemmas.List.length-map}
+use Rattle.std.proofs.{lemmas.List.Elements.{All-map, All-filter, filter_passes}, lemmas.List.Sums.{sum_by-cons}}
 use Rattle.std.specs.List.{range_with_len}
-use Rattle.er_event.specs.{declared.scores.Games.Games, declared.tallies.Meeting.Meeting, declared.tallies.Tally.Tally, Event.EventValue}
-use Rattle.er_event.specs.{Appearances.{Appearance, appearances, own_appearances}, Round.is_bye, Sound.IsSoundButForSeeds}
+use Rattle.er_event.specs.{declared.tallies.Meeting.Meeting, declared.tallies.Tally.Tally, Event.EventValue}
+use Rattle.er_event.specs.{Results.{RoundResult, results_of}, Round.is_bye, Sound.IsSoundButForSeeds}
 use Rattle.er_event.specs.{Tallies.{tally_by, tallies}}
-use Rattle.er_event.specs.{Tallies.{counted_matches, meeting_by, meetings}, Totals.{points_by, game_points_by, games_by, points_of}}
+use Rattle.er_event.specs.{Tallies.{complete_matches, meeting_by, meetings}, Totals.points_of}
 use Rattle.er_event.specs.Totals.{game_points_of, games_of, totals}
-use Rattle.er_rank.specs.{declared.lists.TheConstants.MAX_GAMES_OF_MATCH, Meeting.{encounters, totals_of, IsRecord, AreTallies}}
+use Rattle.er_rank.specs.{declared.lists.TheConstants.MAX_GAMES_OF_MATCH, Meeting.{encounters, tally_totals, IsRecord, AreTallies}}
 use Rattle.er_rank.specs.{Meeting.{AreEncounters, IsKnownTo, AreListsOf, AreLists}, Standings.opponents}
 use Rattle.er_rank.proofs.{MeetingLemmas.{is_met, opponents-met, lawful-matches, known-counted}, MeritLemmas.opponents-few}
 use Rattle.er_rank.proofs.{OpponentLemmas.met-count, SoundLemmas.{AreWithin-sound, first_numbers, seats_known}, StandingLemmas.map-map}
 use Rattle.er_rank.proofs.StandingLemmas.{map-agree, totals_of-known}
 
-points-low : (seen : Option Games) → points_by seen ≤ 3
-points-low h1 = grind (arith, common_steps)
+points-low : (r : RoundResult) → points_of r ≤ 3
+points-low r = grind (arith, common_steps)
 
-game_points-low : (seen : Option Games) → game_points_by seen ≤ 3 * games_by seen
-game_points-low h1 = grind (arith, common_steps)
+game_points-low : (r : RoundResult) → game_points_of r ≤ 3 * games_of r
+game_points-low r = omega arith
 
--- what short appearances come to
-record AreShort (own : List Appearance) : Type 0 where
+-- what short results come to
+record AreShort (own : List RoundResult) : Type 0 where
   points : sum_by points_of own ≤ 3 * length own
   games : sum_by games_of own ≤ MAX_GAMES_OF_MATCH * length own
   game_points : sum_by game_points_of own ≤ 3 * sum_by games_of own
 
-short-appearances : (own : List Appearance) → All (λ (l : Appearance). games_of l ≤ MAX_GAMES_OF_MATCH) own → AreShort own
-short-appearances [] short = record { points = omega arith; games = omega arith; game_points = omega arith }
-short-appearances (l ∷ own) short =
-    let rest = short-appearances own (λ k d below. short (suc k) d (omega arith)) in
-    let games = sum_by-cons games_of l own in
+short-results : (own : List RoundResult) → All (λ (r : RoundResult). games_of r ≤ MAX_GAMES_OF_MATCH) own → AreShort own
+short-results [] short = record { points = omega arith; games = omega arith; game_points = omega arith }
+short-results (r ∷ own) short =
+    let rest = short-results own (λ k d below. short (suc k) d (omega arith)) in
+    let games = sum_by-cons games_of r own in
     record {
-      points = omega (arith, sum_by-cons points_of l own, points-low l.games, rest.points);
-      games = omega (arith, games, short 0 l (omega arith), rest.games);
-      game_points = omega (arith, sum_by-cons game_points_of l own, games, game_points-low l.games, rest.game_points);
+      points = omega (arith, sum_by-cons points_of r own, points-low r, rest.points);
+      games = omega (arith, games, short 0 r (omega arith), rest.games);
+      game_points = omega (arith, sum_by-cons game_points_of r own, games, game_points-low r, rest.game_points);
     }
 
 module _ (e : EventValue) (sound : IsSoundButForSeeds e) where
   totals-record : (player : ℕ) → IsRecord (totals e player)
   totals-record player =
-      let within = AreWithin-sound e sound in
-      let own : Appearance → Bool = λ l. l.player == player in
-      let short = short-appearances (own_appearances e player) (All-filter own (λ (l : Appearance). games_of l ≤ MAX_GAMES_OF_MATCH)
-      (appearances e) within.short) in
+      let within = AreWithin-sound e sound player in
+      let short = short-results (results_of e player) within.short in
       record {
-        rounds = omega (arith, within.few player, length-filter own (appearances e));
-        points = short.points;
-        games = short.games;
+        rounds = within.few;
+        points = omega (arith, short.points);
+        games = omega (arith, short.games);
         game_points = short.game_points;
       }
 
@@ -65,22 +63,22 @@ module _ (e : EventValue) (sound : IsSoundButForSeeds e) where
   AreEncounters-event =
       let players = length e.players in
       let known = known-counted players e.stored (seats_known e sound) in
-      let lawful = lawful-matches players (totals e) (counted_matches e.stored) totals-record known in
+      let lawful = lawful-matches players (totals e) (complete_matches e.stored) totals-record known in
       rw (length-map e.players (tally_by (totals e))) (record {
         known = λ k d below. (lawful k d below).known;
         few = λ player.
             let met = ap length (opponents-met e player (first_numbers e sound)) in
             let count = length-map (opponents e player) (totals e) in
-            omega (arith, met-count (encounters (meetings e)) player, opponents-few e player (AreWithin-sound e sound));
+            omega (arith, met-count (encounters (meetings e)) player, opponents-few e player (AreWithin-sound e sound player));
         records = λ k d below. (lawful k d below).recorded;
       })
 
   -- the meetings that the code makes of the tallies
-  pub meetings-known : map (meeting_by (totals_of (tallies e))) (filter is_met (counted_matches e.stored)) ≡ meetings e
+  pub meetings-known : map (meeting_by (tally_totals (tallies e))) (filter is_met (complete_matches e.stored)) ≡ meetings e
   meetings-known =
-      let all = counted_matches e.stored in
+      let all = complete_matches e.stored in
       let known = All-filter is_met (IsKnownTo (length e.players)) all (known-counted (length e.players) e.stored (seats_known e sound)) in
-      map-agree (meeting_by (totals_of (tallies e))) (meeting_by (totals e)) (filter is_met all) (λ k d below.
+      map-agree (meeting_by (tally_totals (tallies e))) (meeting_by (totals e)) (filter is_met all) (λ k d below.
       let m = get_or (filter is_met all) k d in
       let both = known k d below (not-true (is_bye m) (filter_passes is_met all k d below)) in
       let lo = totals_of-known e sound (min m.a m.b) (omega (arith, both), omega (arith, both)) in

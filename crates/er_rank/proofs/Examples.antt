@@ -2,7 +2,7 @@
 use Rattle.std.specs.Prelude.{◌≡◌, ℕ, ◌+◌, Bool, true, false, List, [], ◌∷◌, ◌++◌, map, replicate, count_by, codes, Some, refl}
 use Rattle.er_share.specs.Fraction.{fraction_cmp, percentage, average, hundredths}
 use Rattle.er_event.specs.{declared.events.Phase.TheVariants.Swiss, declared.players.Player.Player, declared.matches.Match.Match}
-use Rattle.er_event.specs.{declared.rounds.Round.Round, Bracket.open_match, Event.EventValue, Appearances.appearances, Totals.totals}
+use Rattle.er_event.specs.{declared.rounds.Round.Round, Bracket.open_match, Event.EventValue, Results.results_of, Totals.totals}
 use Rattle.er_rank.specs.{declared.lists.TheConstants.MAX_GAMES_OF_MATCH, declared.rows.Row.Row, Standings.{opponents_match_win, game_win}}
 use Rattle.er_rank.specs.Standings.{opponents_game_win, is_better, is_listed_before, first_active}
 
@@ -54,7 +54,7 @@ four = three ++ player 4 (codes "Di") ∷ []
 abbrev bye_paired : EventValue
 bye_paired = event_of three (round_of (open_match 2 1 ∷ played 3 0 2 0 0 ∷ []) ∷ [])
 
-pub an_open_round : appearances bye_paired ≡ []
+pub an_open_round : map (results_of bye_paired) (1 ∷ 2 ∷ 3 ∷ []) ≡ [] ∷ [] ∷ [] ∷ []
 an_open_round = refl
 
 pub standings_while_open : map (printed bye_paired) (1 ∷ 2 ∷ 3 ∷ []) ≡

@@ -8,7 +8,8 @@ use Rattle.std.specs.{Cmp.then_flip, List.Sorted.IsPermutation, Ordering.{orderi
 use Rattle.er_share.specs.{Fraction.{Fraction, fraction_cmp}, Share.{IsShareOf, fraction_of}}
 use Rattle.er_event.specs.{declared.players.Player.Player, Event.EventValue, Sound.{numbers, IsSoundButForSeeds}}
 use Rattle.er_event.specs.{declared.tallies.Tally.Tally, Tallies.{tally_by, tallies, meetings}, Totals.totals}
-use Rattle.er_rank.specs.{declared.placings.Placing.Placing, declared.rows.Row.Row, Meeting.{Encounter, encounters}, inside.Placing.ranked}
+use Rattle.er_rank.specs.{declared.placings.Placing.Placing, declared.rows.Row.Row, Meeting.{Encounter, encounters}}
+use Rattle.er_rank.specs.inside.Placing.{ranked_rows}
 use Rattle.er_rank.specs.{inside.Placing.ArePlacingsInOrder, Standings.{opponents_match_win, opponents_game_win, game_win, standing_cmp}}
 use Rattle.er_rank.specs.Standings.{is_better, is_listed_before, IsRowOf, AreStandings, OneStandings, OneTop, first_active}
 use Rattle.er_rank.proofs.{PlacingLemmas.{row_in, sorted_apart}, OrderLemmas.{apart_from_range, one_order}, SoundLemmas.first_numbers}
@@ -19,7 +20,7 @@ use Rattle.er_rank.proofs.StandingLemmas.{listed_before, map-map}
 
 -- the placings of an event in order
 pub AreStandings-placings : (e : EventValue) (placings : List Placing) → IsSoundButForSeeds e
-    → ArePlacingsInOrder (encounters (meetings e)) (tallies e) placings → AreStandings e (ranked placings)
+    → ArePlacingsInOrder (encounters (meetings e)) (tallies e) placings → AreStandings e (ranked_rows placings)
 AreStandings-placings e placings sound are =
     let player : Placing → ℕ = λ p. p.player in
     let numbered = are.placed.numbers ∙ map-map (λ (t : Tally). t.no) (tally_by (totals e)) e.players in

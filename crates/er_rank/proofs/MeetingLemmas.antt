@@ -1,32 +1,32 @@
--- Whom a player has met by the meetings is whom the player has met by the appearances.
-use Rattle.std.proofs.{lemmas.Grind.common_steps, Common.{◌≡◌, ℕ, ◌+◌, ◌<◌, nat_lt, min, max, suc, Bool, true, not, if◌then◌else◌, List}}
+-- Whom a player has met by the meetings is whom the player has met by the results.
+use Rattle.std.proofs.{lemmas.Grind.common_steps, Common.{◌≡◌, ℕ, ◌+◌, ◌<◌, min, max, suc, Bool, true, not, if◌then◌else◌, List}}
 use Rattle.std.proofs.Common.{[], ◌∷◌, ◌++◌, map, filter, flat_map, length, take, get_or, All, Option, Some, None, refl, arith, inl, inr}
-use Rattle.std.proofs.{lemmas.Bool.{cases_Bool, not-true, cond_both, and_parts, and_from}, lemmas.List.map-append}
-use Rattle.std.proofs.lemmas.List.Elements.{All-nil, All-cons, All-append, filter-append}
+use Rattle.std.proofs.{lemmas.Bool.{cases_Bool, not-true, cond_both, and_parts, and_from}}
+use Rattle.std.proofs.lemmas.List.Elements.{All-nil, All-cons, All-append, filter_map-append}
+use Rattle.std.specs.List.{enumerate_from, filter_map}
 use Rattle.er_event.specs.{declared.matches.Match.Match, declared.rounds.Round.Round, declared.scores.Games.Games}
 use Rattle.er_event.specs.{declared.tallies.Meeting.Meeting, declared.totals.Totals.Totals, Event.EventValue}
-use Rattle.er_event.specs.{Appearances.{own, appearances_of_score}}
-use Rattle.std.proofs.Common.{ap, ap₂, sym, ◌∙◌, append-nil}
-use Rattle.er_event.specs.{declared.players.Player.Player, Appearances.{has_missed, missed_appearance, missed_in, missed_from}}
-use Rattle.er_event.specs.{Appearances.{appearances_of_match, counted_appearances, appearances_from}, Round.{is_bye, is_counted}}
-use Rattle.er_event.specs.{Tallies.counted_matches}
+use Rattle.er_event.specs.{Results.{RoundResult, results_by, results_in}, Round.{is_bye, is_complete}}
+use Rattle.er_event.specs.{Tallies.complete_matches}
 use Rattle.er_event.specs.{Tallies.{meeting_by, meetings}, Totals.totals}
 use Rattle.er_rank.specs.{Meeting.{Encounter, encounters, opponents_of, IsRecord, IsKnownTo, AreKnownTo}, Standings.opponents}
 use Rattle.er_rank.specs.Tally.{IsKnown}
-use Rattle.er_event.specs.Appearances as event
 
 abbrev pub is_met : Match → Bool
 is_met m = not (is_bye m)
 
-abbrev is_some : ℕ → Bool
-is_some q = nat_lt 0 q
+abbrev opponent_in : RoundResult → Option ℕ
+opponent_in r = r.opponent
 
-abbrev opponent_in : event.Appearance → ℕ
-opponent_in l = l.opponent
+abbrev pub results_of_match : ℕ → ℕ → Match → List RoundResult
+results_of_match player round m = results_by player round m m.score
+
+abbrev counts : ℕ × Round → Bool
+counts numbered = is_complete numbered.1.matches
 
 -- a round's matches, where it is complete
 abbrev pub counted_in : Round → List Match
-counted_in r = if is_counted r.matches then r.matches else []
+counted_in r = if is_complete r.matches then r.matches else []
 
 module _ (come_to : ℕ → Totals) where
   -- the meetings of matches, and their encounters
@@ -36,71 +36,50 @@ module _ (come_to : ℕ → Totals) where
   abbrev pub met_in : List Match → List Encounter
   met_in ms = encounters (made_of ms)
 
-  -- what the opponents came to, by appearances
-  abbrev seen_in : ℕ → List event.Appearance → List Totals
-  seen_in player ls = map come_to (filter is_some (map opponent_in (own player ls)))
+  -- what the opponents came to, by results
+  abbrev seen_in : List RoundResult → List Totals
+  seen_in results = map come_to (filter_map opponent_in results)
 
   met_in-append : (xs ys : List Match) → met_in (xs ++ ys) ≡ met_in xs ++ met_in ys
   met_in-append xs ys = grind (arith, common_steps)
 
-  seen_in-append : (player : ℕ) (xs ys : List event.Appearance) → seen_in player (xs ++ ys) ≡ seen_in player xs ++ seen_in player ys
-  seen_in-append player xs ys = simp (filter-append, map-append)
-
-  scored_match : (player r a b : ℕ) (score : Option Games) → is_counted (record { a = a; b = b; score = score } ∷ []) ≡ true → 0 < a
-      → opponents_of (met_in (record { a = a; b = b; score = score } ∷ [])) player ≡ seen_in player (appearances_of_score r a b score)
+  scored_match : (player r a b : ℕ) (score : Option Games) → is_complete (record { a = a; b = b; score = score } ∷ []) ≡ true → 0 < a
+      → opponents_of (met_in (record { a = a; b = b; score = score } ∷ [])) player
+      ≡ seen_in (results_by player r (record { a = a; b = b; score = score }) score)
   scored_match player r a b None scored positive = cc
   scored_match player r a b (Some s) scored positive = grind (arith, common_steps)
 
   -- ---- the matches of a round, and the rounds
 
-  joined : (player : ℕ) (xs ys : List Match) (ks ls : List event.Appearance) → opponents_of (met_in xs) player ≡ seen_in player ks
-      → opponents_of (met_in ys) player ≡ seen_in player ls → opponents_of (met_in (xs ++ ys)) player ≡ seen_in player (ks ++ ls)
-  joined player xs ys ks ls here rest = grind (arith, common_steps)
+  joined : (player : ℕ) (xs ys : List Match) (ks ls : List RoundResult) → opponents_of (met_in xs) player ≡ seen_in ks
+      → opponents_of (met_in ys) player ≡ seen_in ls → opponents_of (met_in (xs ++ ys)) player ≡ seen_in (ks ++ ls)
+  joined player xs ys ks ls here rest = grind (arith, common_steps, filter_map-append)
 
-  round_met : (player r : ℕ) (ms : List Match) → is_counted ms ≡ true → All (λ (m : Match). 0 < m.a) ms
-      → opponents_of (met_in ms) player ≡ seen_in player (flat_map (appearances_of_match r) ms)
+  round_met : (player r : ℕ) (ms : List Match) → is_complete ms ≡ true → All (λ (m : Match). 0 < m.a) ms
+      → opponents_of (met_in ms) player ≡ seen_in (flat_map (results_of_match player r) ms)
   round_met player r [] counted positive = refl
   round_met player r (m ∷ ms) counted positive =
       let both = and_parts _ _ counted in
-      joined player (m ∷ []) ms (appearances_of_match r m) (flat_map (appearances_of_match r) ms)
+      joined player (m ∷ []) ms (results_of_match player r m) (flat_map (results_of_match player r) ms)
       (scored_match player r m.a m.b m.score (and_from _ true both.0 refl) (positive 0 m (omega arith)))
       (round_met player r ms both.1 (λ k d below. positive (suc k) d (omega arith)))
 
   rounds_met : (player n : ℕ) (rounds : List Round) → All (λ (r : Round). All (λ (m : Match). 0 < m.a) r.matches) rounds
-      → opponents_of (met_in (counted_matches rounds)) player ≡ seen_in player (appearances_from n rounds)
+      → opponents_of (met_in (complete_matches rounds)) player
+      ≡ seen_in (flat_map (results_in player) (filter counts (enumerate_from n rounds)))
   rounds_met player n [] positive = refl
   rounds_met player n (r ∷ rounds) positive =
-      let here : opponents_of (met_in (counted_in r)) player ≡ seen_in player (counted_appearances n r) =
-      elim (cases_Bool (is_counted r.matches)) [
-        | inl is ↦ rw is (round_met player n r.matches is (positive 0 r (omega arith)))
-        | inr is ↦ rw is
-      ] in
-      joined player (counted_in r) (counted_matches rounds) (counted_appearances n r) (appearances_from (n + 1) rounds) here
-      (rounds_met player (n + 1) rounds (λ k d below. positive (suc k) d (omega arith)))
-
--- a round that was missed has no opponent
-unseen : (come_to : ℕ → Totals) (player n : ℕ) (ps : List Player) → seen_in come_to player (map (missed_appearance n) ps) ≡ []
-unseen come_to player n [] = refl
-unseen come_to player n (p ∷ ps) = grind (arith, common_steps, unseen come_to player n ps)
-
-missed_seen : (come_to : ℕ → Totals) (player : ℕ) (ps : List Player) (n : ℕ) (rounds : List Round)
-    → seen_in come_to player (missed_from ps n rounds) ≡ []
-missed_seen come_to player ps n [] = refl
-missed_seen come_to player ps n (r ∷ rounds) =
-    let here : seen_in come_to player (missed_in ps n r) ≡ [] = elim (cases_Bool (is_counted r.matches)) [
-      | inl is ↦ rw is (unseen come_to player n (filter (has_missed n) ps))
-      | inr is ↦ rw is refl
-    ] in
-    seen_in-append come_to player (missed_in ps n r) (missed_from ps (n + 1) rounds)
-    ∙ ap₂ (λ (xs ys : List Totals). xs ++ ys) here (missed_seen come_to player ps (n + 1) rounds)
+      let later = rounds_met player (n + 1) rounds (λ k d below. positive (suc k) d (omega arith)) in
+      elim (cases_Bool (is_complete r.matches)) [
+        | inl is ↦ rw is (joined player r.matches (complete_matches rounds) (results_in player (n, r))
+            (flat_map (results_in player) (filter counts (enumerate_from (n + 1) rounds)))
+            (round_met player n r.matches is (positive 0 r (omega arith))) later)
+        | inr is ↦ rw is later
+      ]
 
 pub opponents-met : (e : EventValue) (player : ℕ) → All (λ (r : Round). All (λ (m : Match). 0 < m.a) r.matches) e.stored
     → opponents_of (encounters (meetings e)) player ≡ map (totals e) (opponents e player)
-opponents-met e player positive =
-    let played = seen_in (totals e) player (appearances_from 1 e.stored) in
-    rounds_met (totals e) player 1 e.stored positive
-    ∙ sym (seen_in-append (totals e) player (appearances_from 1 e.stored) (missed_from e.players 1 e.stored)
-    ∙ (ap (λ (ts : List Totals). played ++ ts) (missed_seen (totals e) player e.players 1 e.stored) ∙ append-nil played))
+opponents-met e player = rounds_met (totals e) player 1 e.stored
 
 -- ---- what is known of each encounter
 
@@ -128,11 +107,11 @@ lawful-matches players come_to (m ∷ ms) records known =
         (All-cons (IsLawful players) second [] (record { known = hi; recorded = records (min m.a m.b) }) (All-nil (IsLawful players)))
 
 pub known-counted : (players : ℕ) (rounds : List Round) → All (λ (r : Round). AreKnownTo players r.matches) rounds
-    → AreKnownTo players (counted_matches rounds)
+    → AreKnownTo players (complete_matches rounds)
 known-counted players [] known = All-nil (IsKnownTo players)
 known-counted players (r ∷ rounds) known =
-    All-append (IsKnownTo players) (counted_in r) (counted_matches rounds)
-    (cond_both (is_counted r.matches) r.matches [] (AreKnownTo players) (λ counted. known 0 r (omega arith))
+    All-append (IsKnownTo players) (counted_in r) (complete_matches rounds)
+    (cond_both (is_complete r.matches) r.matches [] (AreKnownTo players) (λ counted. known 0 r (omega arith))
     (λ unfinished. All-nil (IsKnownTo players)))
     (known-counted players rounds (λ k d below. known (suc k) d (omega arith)))
 
@@ -145,7 +124,7 @@ module _ (come_to : ℕ → Totals) (list after : List Meeting) where
   met-more front ms i m below is so_far now = grind (arith, common_steps)
 
   pub counted-more : (rounds : List Round) (i : ℕ) (r : Round) → i < length rounds → r ≡ get_or rounds i r
-      → list ≡ made_of come_to (counted_matches (take i rounds))
-      → after ≡ list ++ made_of come_to (if is_counted r.matches then r.matches else [])
-      → after ≡ made_of come_to (counted_matches (take (i + 1) rounds))
+      → list ≡ made_of come_to (complete_matches (take i rounds))
+      → after ≡ list ++ made_of come_to (if is_complete r.matches then r.matches else [])
+      → after ≡ made_of come_to (complete_matches (take (i + 1) rounds))
   counted-more rounds i r below is so_far now = grind (arith, common_steps)

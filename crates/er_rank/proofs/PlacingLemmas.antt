@@ -9,7 +9,7 @@ use Rattle.std.specs.{Cmp.{unsigned_ties, both_tied}, Ordering.{ordering_then, o
 use Rattle.std.specs.List.{range_with_len}
 use Rattle.er_share.specs.Order.{share_cmp, share_cmp-total, share_cmp-eq}
 use Rattle.er_event.specs.declared.tallies.Tally.{Tally}
-use Rattle.er_rank.specs.{Meeting.{Encounter, opponents_of, totals_of}, inside.Merit.IsMerit, declared.merits.Merit.Merit}
+use Rattle.er_rank.specs.{Meeting.{Encounter, opponents_of, tally_totals}, inside.Merit.IsMerit, declared.merits.Merit.Merit}
 use Rattle.er_rank.specs.{declared.placings.Placing.Placing, declared.rows.Row.Row, inside.Placing.{merit_cmp, placing_cmp, is_above}}
 use Rattle.er_rank.specs.inside.Placing.{is_level, row_of, rank_in, ArePlacings}
 
@@ -139,7 +139,7 @@ map-pushed f xs i x ys after y below is so_far own pushed = grind (arith, common
 pub record AreFirst (met : List Encounter) (tallies : List Tally) (i : ℕ) (placings : List Placing) : Type 0 where
   pub numbers : map (λ (p : Placing). p.player) placings ≡ map (λ (t : Tally). t.no) (take i tallies)
   pub dropped : map (λ (p : Placing). p.dropped) placings ≡ map (λ (t : Tally). t.dropped) (take i tallies)
-  pub merits : All (λ (p : Placing). IsMerit (totals_of tallies p.player) (opponents_of met p.player) p.merit) placings
+  pub merits : All (λ (p : Placing). IsMerit (tally_totals tallies p.player) (opponents_of met p.player) p.merit) placings
 
 pub AreFirst-none : (met : List Encounter) (tallies : List Tally) (placings : List Placing) → placings ≡ []
     → AreFirst met tallies 0 placings
@@ -149,7 +149,7 @@ pub AreFirst-more : (met : List Encounter) (tallies : List Tally) (i : ℕ) (tal
     (placing : Placing)
     → i < length tallies → tally ≡ get_or tallies i tally → AreFirst met tallies i placings
     → placing.player ≡ tally.no → placing.dropped ≡ tally.dropped
-    → IsMerit (totals_of tallies placing.player) (opponents_of met placing.player) placing.merit
+    → IsMerit (tally_totals tallies placing.player) (opponents_of met placing.player) placing.merit
     → after ≡ placings ++ placing ∷ [] → AreFirst met tallies (i + 1) after
 AreFirst-more met tallies i tally placings after placing below is are number dropped merit pushed = grind (arith, common_steps)
 
@@ -167,5 +167,5 @@ number-here tallies i tally numbered below is =
 
 -- what stands at a player's place
 pub totals-here : (tallies : List Tally) (i player : ℕ) (tally : Tally) → i ≡ player - 1 → i < length tallies
-    → tally ≡ get_or tallies i tally → tally.totals ≡ totals_of tallies player
+    → tally ≡ get_or tallies i tally → tally.totals ≡ tally_totals tallies player
 totals-here tallies i player tally at below is = grind (arith, common_steps)

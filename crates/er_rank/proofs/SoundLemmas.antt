@@ -1,76 +1,67 @@
--- The appearances of a sound event keep the limits.
-use Rattle.std.proofs.{lemmas.Grind.common_steps, Common.{◌≡◌, ◌≢◌, ℕ, ◌+◌, ◌<◌, ◌≤◌, ◌==◌, suc, Bool, cond, List, [], ◌∷◌, flat_map}}
+-- The results of a player in a sound event keep the limits.
+use Rattle.std.proofs.lemmas.Grind.{common_steps}
+use Rattle.std.proofs.Common.{◌≡◌, ◌≢◌, ℕ, ◌+◌, ◌<◌, ◌≤◌, ◌==◌, suc, Bool, true, false, cond, List, [], ◌∷◌, flat_map}
 use Rattle.std.proofs.Common.{length, get_or, count_by, All, AllPairs, Contains, IsTrue, IfSome, Option, Some, None, arith, inl, inr}
-use Rattle.std.proofs.{lemmas.Bool.{cases_eq, cond_both}, lemmas.Bool.Decides.nat_tests, lemmas.List.get_or-map}
+use Rattle.std.proofs.{lemmas.Bool.{cases_Bool, cases_eq, cond_both}, lemmas.Bool.Decides.nat_tests, lemmas.List.get_or-map}
 use Rattle.std.proofs.{lemmas.List.Elements.{All-nil, All-append}, lemmas.List.FromFn.{get_or-range_with_len, length-range_with_len}}
-use Rattle.std.proofs.lemmas.List.Sums.{sum_by-cons, sum_by-append}
-use Rattle.er_event.specs.{declared.players.Player.Player, declared.matches.Match.Match, declared.rounds.Round.Round}
-use Rattle.er_event.specs.{declared.scores.Games.Games, Event.EventValue, Round.{is_counted, seats}, Score.is_swiss_score, Sound.numbers}
-use Rattle.er_event.specs.{Sound.{IsRound, IsSoundButForSeeds}}
-use Rattle.er_event.specs.{Appearances.{Appearance, turned, appearances_of_score, appearances_of_match, counted_appearances}}
-use Rattle.er_event.specs.{Appearances.{appearances_from, appearances, has_missed, missed_appearance, missed_in, missed_from}}
-use Rattle.er_event.specs.{Round.IsAbsent, Totals.games_of}
-use Rattle.std.proofs.{Common.{◌-◌, ◌∙◌, filter, map, subst, sym, take, refl, ◌⊎◌}, lemmas.Bool.cases_Bool}
-use Rattle.std.proofs.lemmas.List.{length-map, Elements.All-map}
-use Rattle.std.specs.List.{range_with_len}
+use Rattle.std.proofs.lemmas.List.{Sums.{sum_by-cons, sum_by-append}, length-append}
+use Rattle.std.proofs.{Common.{◌-◌, filter, nat_le, subst, take, refl, ◌⊎◌}}
+use Rattle.std.specs.List.{enumerate_from}
 use Rattle.er_share.specs.declared.TheConstants.{MAX_ROUNDS}
+use Rattle.er_event.specs.{declared.players.Player.Player, declared.matches.Match.Match, declared.rounds.Round.Round}
+use Rattle.er_event.specs.{declared.scores.Games.Games, Event.EventValue, Round.{is_complete, seats}, Score.is_swiss_score, Sound.numbers}
+use Rattle.er_event.specs.{Sound.{HasMissed, IsRound, IsSoundButForSeeds}, Round.IsAbsent, Totals.games_of}
+use Rattle.er_event.specs.Results.{RoundResult, results_by, results_in, results_of, rounds_missed_of, missed_rounds}
 use Rattle.er_rank.specs.{Meeting.AreKnownTo, declared.lists.TheConstants.MAX_GAMES_OF_MATCH, Tally.IsKnown}
-use Rattle.er_rank.proofs.PlacingLemmas.{count_front}
+use Rattle.er_rank.proofs.{MeetingLemmas.results_of_match, PlacingLemmas.count_front}
 
--- the limits that the appearances of a sound event keep
-pub record AreWithin (appearances : List Appearance) : Type 0 where
-  pub few : (player : ℕ) → count_by (λ (l : Appearance). l.player == player) appearances ≤ MAX_ROUNDS
-  pub short : All (λ (l : Appearance). games_of l ≤ MAX_GAMES_OF_MATCH) appearances
+abbrev IsShort : RoundResult → Type 0
+IsShort r = games_of r ≤ MAX_GAMES_OF_MATCH
 
-abbrev second_appearance : ℕ → ℕ → ℕ → Games → Appearance
-second_appearance r a b s = record { round = r; player = b; opponent = a; games = Some (turned s) }
+-- the limits that the results of a player keep, with so many rounds that were missed
+pub record AreWithin (results : List RoundResult) (missed : ℕ) : Type 0 where
+  pub few : length results + missed ≤ MAX_ROUNDS
+  pub short : All (λ (r : RoundResult). games_of r ≤ MAX_GAMES_OF_MATCH) results
 
--- ---- the games of an appearance
+-- the complete ones of rounds that are numbered from this one on
+abbrev complete_from : ℕ → List Round → List (ℕ × Round)
+complete_from first rounds = filter (λ (numbered : ℕ × Round). is_complete numbered.1.matches) (enumerate_from first rounds)
 
-abbrev IsShort : Appearance → Type 0
-IsShort l = games_of l ≤ MAX_GAMES_OF_MATCH
+abbrev results_from : ℕ → ℕ → List Round → List RoundResult
+results_from player first rounds = flat_map (results_in player) (complete_from first rounds)
 
-score_short : (r a b : ℕ) (score : Option Games) → IfSome score (λ s. IsTrue (is_swiss_score s))
-    → All IsShort (appearances_of_score r a b score)
-score_short r a b None lawful = All-nil IsShort
-score_short r a b (Some s) lawful = grind (arith, common_steps, cond_both, nat_tests)
+abbrev is_early : ℕ → ℕ × Round → Bool
+is_early joined numbered = nat_le numbered.0 joined
 
-matches_short : (r : ℕ) (ms : List Match) → All (λ (m : Match). IfSome m.score (λ s. IsTrue (is_swiss_score s))) ms
-    → All IsShort (flat_map (appearances_of_match r) ms)
-matches_short r [] lawful = All-nil IsShort
-matches_short r (m ∷ ms) lawful =
-    All-append IsShort _ _ (score_short r m.a m.b m.score (lawful 0 m (omega arith)))
-    (matches_short r ms (λ k d below. lawful (suc k) d (omega arith)))
+-- ---- the games of a result
 
-rounds_short : (players : List ℕ) (r : ℕ) (rounds : List Round) → All (λ (round : Round). IsRound players round.matches) rounds
-    → All IsShort (appearances_from r rounds)
-rounds_short players r [] sound = All-nil IsShort
-rounds_short players r (round ∷ rounds) sound =
-    let here = sound 0 round (omega arith) in
-    All-append IsShort (counted_appearances r round) (appearances_from (r + 1) rounds)
-    (cond_both (is_counted round.matches) (flat_map (appearances_of_match r) round.matches) [] (All IsShort)
-    (λ counted. matches_short r round.matches here.scores) (λ unfinished. All-nil IsShort))
-    (rounds_short players (r + 1) rounds (λ k d below. sound (suc k) d (omega arith)))
+score_short : (player r : ℕ) (m : Match) (score : Option Games) → IfSome score (λ s. IsTrue (is_swiss_score s))
+    → All IsShort (results_by player r m score)
+score_short player r m None lawful = All-nil IsShort
+score_short player r m (Some s) lawful = grind (arith, common_steps, cond_both, nat_tests)
 
--- a round that was missed has no game
-missed_in_short : (ps : List Player) (r : ℕ) (round : Round) → All IsShort (missed_in ps r round)
-missed_in_short ps r round =
-    let missed = filter (has_missed r) ps in
-    cond_both (is_counted round.matches) (map (missed_appearance r) missed) [] (All IsShort)
-    (λ counted. All-map IsShort (missed_appearance r) missed (λ k d below. omega arith)) (λ unfinished. All-nil IsShort)
+matches_short : (player r : ℕ) (ms : List Match) → All (λ (m : Match). IfSome m.score (λ s. IsTrue (is_swiss_score s))) ms
+    → All IsShort (flat_map (results_of_match player r) ms)
+matches_short player r [] lawful = All-nil IsShort
+matches_short player r (m ∷ ms) lawful =
+    All-append IsShort _ _ (score_short player r m m.score (lawful 0 m (omega arith)))
+    (matches_short player r ms (λ k d below. lawful (suc k) d (omega arith)))
 
-missed_short : (ps : List Player) (r : ℕ) (rounds : List Round) → All IsShort (missed_from ps r rounds)
-missed_short ps r [] = All-nil IsShort
-missed_short ps r (round ∷ rounds) =
-    All-append IsShort (missed_in ps r round) (missed_from ps (r + 1) rounds) (missed_in_short ps r round) (missed_short ps (r + 1) rounds)
+rounds_short : (known : List ℕ) (player n : ℕ) (rounds : List Round) → All (λ (round : Round). IsRound known round.matches) rounds
+    → All IsShort (results_from player n rounds)
+rounds_short known player n [] sound = All-nil IsShort
+rounds_short known player n (r ∷ rounds) sound =
+    let later = rounds_short known player (n + 1) rounds (λ k d below. sound (suc k) d (omega arith)) in
+    elim (cases_Bool (is_complete r.matches)) [
+      | inl counted ↦ rw counted (All-append IsShort (results_in player (n, r)) (results_from player (n + 1) rounds)
+          (matches_short player n r.matches (sound 0 r (omega arith)).scores) later)
+      | inr unfinished ↦ rw unfinished later
+    ]
 
--- ---- one appearance a round
+-- ---- one result a round
 
 abbrev is_no : ℕ → ℕ → Bool
 is_no player q = q == player
-
-abbrev is_of : ℕ → Appearance → Bool
-is_of player l = l.player == player
 
 -- a number stands once among different ones
 once : (player : ℕ) (qs : List ℕ) → AllPairs (λ p q. p ≢ q) qs → count_by (is_no player) qs ≤ 1
@@ -87,163 +78,108 @@ once player (q ∷ qs) apart =
       | inr other ↦ grind (arith, nat_tests, split, rest)
     ]
 
-score_once : (player r a b : ℕ) (score : Option Games)
-    → count_by (is_of player) (appearances_of_score r a b score) ≤ count_by (is_no player) (a ∷ b ∷ [])
-score_once player r a b h1 = grind (arith, common_steps)
+score_once : (player r : ℕ) (m : Match) (score : Option Games)
+    → length (results_by player r m score) ≤ count_by (is_no player) (m.a ∷ m.b ∷ [])
+score_once player r m score = grind (arith, common_steps)
 
 matches_once : (player r : ℕ) (ms : List Match)
-    → count_by (is_of player) (flat_map (appearances_of_match r) ms) ≤ count_by (is_no player) (flat_map seats ms)
+    → length (flat_map (results_of_match player r) ms) ≤ count_by (is_no player) (flat_map seats ms)
 matches_once player r [] = omega arith
 matches_once player r (m ∷ ms) =
-    let here = score_once player r m.a m.b m.score in
+    let here = score_once player r m m.score in
     let rest = matches_once player r ms in
-    let own = sum_by-append (λ (l : Appearance). cond (is_of player l) 1 0) (appearances_of_match r m)
-    (flat_map (appearances_of_match r) ms) in
+    let own = length-append (results_of_match player r m) (flat_map (results_of_match player r) ms) in
     let all = sum_by-append (λ q. cond (is_no player q) 1 0) (seats m) (flat_map seats ms) in
     rw (own, all) (omega (arith, here, rest))
 
 -- ---- who missed a round has no match in it
 
-score_none : (player r a b : ℕ) (score : Option Games) → a ≢ player → b ≢ player
-    → count_by (is_of player) (appearances_of_score r a b score) ≡ 0
-score_none player r a b h1 first second = grind (arith, common_steps, nat_tests)
+score_none : (player r : ℕ) (m : Match) (score : Option Games) → m.a ≢ player → m.b ≢ player → length (results_by player r m score) ≡ 0
+score_none player r m score first second = grind (arith, common_steps, nat_tests)
 
-matches_none : (player r : ℕ) (ms : List Match) → IsAbsent player ms → count_by (is_of player) (flat_map (appearances_of_match r) ms) ≡ 0
+matches_none : (player r : ℕ) (ms : List Match) → IsAbsent player ms → length (flat_map (results_of_match player r) ms) ≡ 0
 matches_none player r [] away = refl
 matches_none player r (m ∷ ms) away =
-    let here = score_none player r m.a m.b m.score (away 0 m (omega arith)).0 (away 0 m (omega arith)).1 in
+    let here = score_none player r m m.score (away 0 m (omega arith)).0 (away 0 m (omega arith)).1 in
     let rest = matches_none player r ms (λ k d below. away (suc k) d (omega arith)) in
-    let own = sum_by-append (λ (l : Appearance). cond (is_of player l) 1 0) (appearances_of_match r m)
-    (flat_map (appearances_of_match r) ms) in
+    let own = length-append (results_of_match player r m) (flat_map (results_of_match player r) ms) in
     rw own (omega (arith, here, rest))
-
-missed_none : (player r : ℕ) (ps : List Player) → All (λ (p : Player). p.no ≢ player) ps
-    → count_by (is_of player) (map (missed_appearance r) (filter (has_missed r) ps)) ≡ 0
-missed_none player r [] other = refl
-missed_none player r (p ∷ ps) other =
-    let rest = missed_none player r ps (λ k d below. other (suc k) d (omega arith)) in
-    let here = other 0 p (omega arith) in
-    elim (cases_Bool (has_missed r p)) [
-      | inl late ↦ rw late (grind (arith, common_steps, nat_tests, sum_by-cons))
-      | inr early ↦ rw early rest
-    ]
-
-abbrev HasNone : ℕ → List Match → Player → Type 0
-HasNone r ms p = r ≤ p.joined → IsAbsent p.no ms
-
--- the appearances of its matches and those of who missed it
-one_appearance : (player r : ℕ) (ms : List Match) (ps : List Player) → AllPairs (λ p q. p ≢ q) (numbers ps) → All (HasNone r ms) ps
-    → count_by (is_of player) (flat_map (appearances_of_match r) ms) ≤ 1
-    → count_by (is_of player) (flat_map (appearances_of_match r) ms)
-    + count_by (is_of player) (map (missed_appearance r) (filter (has_missed r) ps)) ≤ 1
-one_appearance player r ms [] apart none one = omega arith
-one_appearance player r ms (p ∷ ps) apart none one =
-    let more = one_appearance player r ms ps (λ i j d before within. apart (suc i) (suc j) d (omega arith) (omega arith))
-    (λ k d below. none (suc k) d (omega arith)) one in
-    elim (cases_Bool (has_missed r p)) [
-      | inl late ↦
-          let low : r ≤ p.joined = grind (arith, nat_tests) in
-          let split = sum_by-cons (λ (l : Appearance). cond (is_of player l) 1 0) (missed_appearance r p)
-          (map (missed_appearance r) (filter (has_missed r) ps)) in
-          elim (cases_eq p.no player) [
-            | inl same ↦
-                let away = subst (λ (n : ℕ). IsAbsent n ms) same (none 0 p (omega arith) low) in
-                let appearances_none = matches_none player r ms away in
-                let later = missed_none player r ps (λ k d below. other_number p ps apart player same k d below) in
-                rw late (grind (arith, nat_tests, split, appearances_none, later))
-            | inr other ↦ rw late (grind (arith, nat_tests, split, more))
-          ]
-      | inr early ↦ rw early more
-    ]
-  where
-    other_number : (p : Player) (ps : List Player) → AllPairs (λ a b. a ≢ b) (numbers (p ∷ ps)) → (player : ℕ) → p.no ≡ player
-        → (k : ℕ) (d : Player) → k < length ps → (get_or ps k d).no ≢ player
-    other_number p ps apart player same k d below is =
-        let at = get_or-map (λ (q : Player). q.no) ps k d 0 below in
-        let long = length-map ps (λ (q : Player). q.no) in
-        apart 0 (suc k) 0 (omega arith) (omega (arith, long)) (same ∙ (sym is ∙ sym at))
 
 low_or_high : (m n : ℕ) → (m ≤ n) ⊎ (n < m)
 low_or_high m n = grind arith
 
--- in each round
-abbrev AreAway : List Player → ℕ → List Round → Type 0
-AreAway ps r [] = Unit {0}
-AreAway ps r (round ∷ later) = All (HasNone r round.matches) ps × AreAway ps (r + 1) later
+-- the player has no match in the first rounds, up to this one
+abbrev IsAway : ℕ → ℕ → ℕ → List Round → Type 0
+IsAway player joined n rounds = All (λ (round : Round). IsAbsent player round.matches) (take (joined + 1 - n) rounds)
 
-away_from : (ps : List Player) (r : ℕ) (rounds : List Round)
-    → All (λ (p : Player). All (λ (round : Round). IsAbsent p.no round.matches) (take (p.joined + 1 - r) rounds)) ps → AreAway ps r rounds
-away_from ps r [] away = tt
-away_from ps r (round ∷ later) away = (
-  λ k d below low.
-      let p = get_or ps k d in
-      let some : p.joined + 1 - r ≡ suc (p.joined + 1 - (r + 1)) = omega arith in
-      rw some at (away k d below) 0 round (omega arith),
-  away_from ps (r + 1) later (λ k d below.
-      let p = get_or ps k d in
-      later_away p r round later (away k d below)),
-)
-  where
-    later_away : (p : Player) (r : ℕ) (round : Round) (later : List Round)
-        → All (λ (q : Round). IsAbsent p.no q.matches) (take (p.joined + 1 - r) (round ∷ later))
-        → All (λ (q : Round). IsAbsent p.no q.matches) (take (p.joined + 1 - (r + 1)) later)
-    later_away p r round later away = elim (low_or_high r p.joined) [
-      | inl low ↦
-          let some : p.joined + 1 - r ≡ suc (p.joined + 1 - (r + 1)) = omega arith in
-          λ k d below. rw some at away (suc k) d (omega arith)
-      | inr high ↦
-          let none : p.joined + 1 - (r + 1) ≡ 0 = omega arith in
-          λ k d below. absurd (let never = rw none at below in omega arith)
+later_away : (player joined n : ℕ) (r : Round) (later : List Round) → IsAway player joined n (r ∷ later)
+    → IsAway player joined (n + 1) later
+later_away player joined n r later away = elim (low_or_high n joined) [
+  | inl low ↦
+      let some : joined + 1 - n ≡ suc (joined + 1 - (n + 1)) = omega arith in
+      λ k d below. rw some at away (suc k) d (omega arith)
+  | inr high ↦
+      let none : joined + 1 - (n + 1) ≡ 0 = omega arith in
+      λ k d below. absurd (let never = rw none at below in omega arith)
+]
+
+-- a round is played once at most, or missed
+round_once : (player joined n : ℕ) (r : Round) (later : List Round) → AllPairs (λ p q. p ≢ q) (flat_map seats r.matches)
+    → IsAway player joined n (r ∷ later) → length (results_in player (n, r)) + cond (nat_le n joined) 1 0 ≤ 1
+round_once player joined n r later apart away = elim (low_or_high n joined) [
+  | inl low ↦
+      let some : joined + 1 - n ≡ suc (joined + 1 - (n + 1)) = omega arith in
+      let none = matches_none player n r.matches (rw some at away 0 r (omega arith)) in
+      let late : nat_le n joined ≡ true = grind (arith, nat_tests) in
+      rw late (omega (arith, none))
+  | inr high ↦
+      let one = matches_once player n r.matches in
+      let few = once player (flat_map seats r.matches) apart in
+      let early : nat_le n joined ≡ false = grind (arith, nat_tests) in
+      rw early (omega (arith, one, few))
+]
+
+rounds_once : (player joined n : ℕ) (rounds : List Round)
+    → All (λ (round : Round). AllPairs (λ p q. p ≢ q) (flat_map seats round.matches)) rounds → IsAway player joined n rounds
+    → length (results_from player n rounds) + count_by (is_early joined) (complete_from n rounds) ≤ length rounds
+rounds_once player joined n [] apart away = omega arith
+rounds_once player joined n (r ∷ rounds) apart away =
+    let one = round_once player joined n r rounds (apart 0 r (omega arith)) away in
+    let rest = rounds_once player joined (n + 1) rounds (λ k d below. apart (suc k) d (omega arith))
+    (later_away player joined n r rounds away) in
+    let own = length-append (results_in player (n, r)) (results_from player (n + 1) rounds) in
+    let missed = sum_by-cons (λ (x : ℕ × Round). cond (is_early joined x) 1 0) (n, r) (complete_from (n + 1) rounds) in
+    elim (cases_Bool (is_complete r.matches)) [
+      | inl counted ↦ rw (counted, own, missed) (omega (arith, one, rest))
+      | inr unfinished ↦ rw unfinished (omega (arith, rest))
     ]
 
-rounds_once : (player r : ℕ) (ps : List Player) (rounds : List Round)
-    → All (λ (round : Round). AllPairs (λ p q. p ≢ q) (flat_map seats round.matches)) rounds → AllPairs (λ p q. p ≢ q) (numbers ps)
-    → AreAway ps r rounds
-    → count_by (is_of player) (appearances_from r rounds) + count_by (is_of player) (missed_from ps r rounds) ≤ length rounds
-rounds_once player r ps [] apart differ away = omega arith
-rounds_once player r ps (round ∷ rounds) apart differ away =
-    let one = once player (flat_map seats round.matches) (apart 0 round (omega arith)) in
-    let few : count_by (is_of player) (flat_map (appearances_of_match r) round.matches) ≤ 1 =
-    omega (arith, matches_once player r round.matches) in
-    let here : count_by (is_of player) (counted_appearances r round) + count_by (is_of player) (missed_in ps r round) ≤ 1 =
-    elim (cases_Bool (is_counted round.matches)) [
-      | inl counted ↦ rw counted (one_appearance player r round.matches ps differ away.0 few)
-      | inr unfinished ↦ rw unfinished (omega arith)
-    ] in
-    let rest = rounds_once player (r + 1) ps rounds (λ k d below. apart (suc k) d (omega arith)) differ away.1 in
-    let played = sum_by-append (λ (l : Appearance). cond (is_of player l) 1 0) (counted_appearances r round)
-    (appearances_from (r + 1) rounds) in
-    let missed = sum_by-append (λ (l : Appearance). cond (is_of player l) 1 0) (missed_in ps r round) (missed_from ps (r + 1) rounds) in
-    rw (played, missed) (omega arith)
-
-range_apart : (a n : ℕ) → AllPairs (λ p q. p ≢ q) (range_with_len a n)
-range_apart a n i j d before within same =
-    let long = length-range_with_len a n in
-    let one = get_or-range_with_len a n i d (omega arith) in
-    let other = get_or-range_with_len a n j d (omega arith) in
-    omega (arith, one, other, same)
+-- the player of a number has no match in the rounds that were missed
+away_first : (player : ℕ) (ps : List Player) (rounds : List Round) → All (HasMissed rounds) ps
+    → All (λ (round : Round). IsAbsent player round.matches) (take (rounds_missed_of ps player) rounds)
+away_first player [] rounds missed = All-nil (λ (round : Round). IsAbsent player round.matches)
+away_first player (p ∷ ps) rounds missed = elim (cases_eq p.no player) [
+  | inl same ↦
+      let joined : rounds_missed_of (p ∷ ps) player ≡ p.joined = grind (arith, common_steps, nat_tests) in
+      rw joined (subst (λ (q : ℕ). All (λ (round : Round). IsAbsent q round.matches) (take p.joined rounds)) same
+      (missed 0 p (omega arith)).absent)
+  | inr other ↦
+      let joined : rounds_missed_of (p ∷ ps) player ≡ rounds_missed_of ps player = grind (arith, common_steps, nat_tests) in
+      rw joined (away_first player ps rounds (λ k d below. missed (suc k) d (omega arith)))
+]
 
 -- ---- a sound event
 
 module _ (e : EventValue) (sound : IsSoundButForSeeds e) where
-  -- no two players have one number
-  differ : AllPairs (λ p q. p ≢ q) (numbers e.players)
-  differ = rw sound.players.numbered (range_apart 1 (length e.players))
-
-  pub AreWithin-sound : AreWithin (appearances e)
-  AreWithin-sound =
-      let away = away_from e.players 1 e.stored (λ k d below.
-      let p = get_or e.players k d in
-      let all : p.joined + 1 - 1 ≡ p.joined = omega arith in
-      rw all (sound.missed k d below).absent) in
-      let apart = λ (player : ℕ). rounds_once player 1 e.players e.stored (λ k d below. (sound.rounds.each k d below).seated_once) differ
-      away in
-      let both = λ (player : ℕ). sum_by-append (λ (l : Appearance). cond (is_of player l) 1 0) (appearances_from 1 e.stored)
-      (missed_from e.players 1 e.stored) in
+  pub AreWithin-sound : (player : ℕ) → AreWithin (results_of e player) (missed_rounds e player)
+  AreWithin-sound player =
+      let joined = rounds_missed_of e.players player in
+      let all : joined + 1 - 1 ≡ joined = omega arith in
+      let away : IsAway player joined 1 e.stored = rw all (away_first player e.players e.stored sound.missed) in
+      let once = rounds_once player joined 1 e.stored (λ k d below. (sound.rounds.each k d below).seated_once) away in
       record {
-        few = λ player. rw (both player) (omega (arith, apart player, sound.rounds.few, sound.set_up.rounds));
-        short = All-append IsShort (appearances_from 1 e.stored) (missed_from e.players 1 e.stored)
-            (rounds_short (numbers e.players) 1 e.stored sound.rounds.each) (missed_short e.players 1 e.stored);
+        few = omega (arith, once, sound.rounds.few, sound.set_up.rounds);
+        short = rounds_short (numbers e.players) player 1 e.stored sound.rounds.each;
       }
 
   -- the players' numbers

@@ -9,7 +9,7 @@ use Rattle.er_share.specs.{Share.IsShareOf, Order.share_cmp-same}
 use Rattle.er_event.specs.{declared.players.Player.Player, declared.matches.Match.Match, declared.rounds.Round.Round}
 use Rattle.er_event.specs.{declared.tallies.Tally.Tally, Event.EventValue, Sound.IsSoundButForSeeds, Tallies.{tally_by, tallies, meetings}}
 use Rattle.er_event.specs.{declared.totals.Totals.Totals, Totals.totals}
-use Rattle.er_rank.specs.{declared.placings.Placing.Placing, Tally.{no_totals, IsKnown}, Meeting.{encounters, opponents_of, totals_of}}
+use Rattle.er_rank.specs.{declared.placings.Placing.Placing, Tally.{no_totals, IsKnown}, Meeting.{encounters, opponents_of, tally_totals}}
 use Rattle.er_rank.specs.{inside.Merit.IsMerit, inside.Placing.{merit_cmp, placing_cmp, is_above, ArePlacings}, Standings.game_win}
 use Rattle.er_rank.specs.Standings.{opponents_match_win, opponents_game_win, standing_cmp, is_better, is_listed_before}
 use Rattle.er_rank.proofs.{PlacingLemmas.{merit_cmp-total, count_by-agree}, MeetingLemmas.opponents-met}
@@ -43,7 +43,7 @@ pub record IsPlacing (e : EventValue) (p : Placing) : Type 0 where
 
 module _ (e : EventValue) (sound : IsSoundButForSeeds e) where
   -- the tally at a known player's place
-  pub totals_of-known : (player : ℕ) → IsKnown (length e.players) player → totals_of (tallies e) player ≡ totals e player
+  pub totals_of-known : (player : ℕ) → IsKnown (length e.players) player → tally_totals (tallies e) player ≡ totals e player
   totals_of-known player known =
       let own = map-map (λ (t : Tally). t.totals) (tally_by (totals e)) e.players in
       let numbered = map-map (totals e) (λ (p : Player). p.no) e.players in
@@ -56,7 +56,7 @@ module _ (e : EventValue) (sound : IsSoundButForSeeds e) where
   module _ (positive : All (λ (r : Round). All (λ (m : Match). 0 < m.a) r.matches) e.stored) where
     IsPlacing-merit : (p : Placing) (listed : Player) → Contains e.players listed → IsKnown (length e.players) p.player
         → p.player ≡ listed.no → p.dropped ≡ listed.dropped
-        → IsMerit (totals_of (tallies e) p.player) (opponents_of (encounters (meetings e)) p.player) p.merit → IsPlacing e p
+        → IsMerit (tally_totals (tallies e) p.player) (opponents_of (encounters (meetings e)) p.player) p.merit → IsPlacing e p
     IsPlacing-merit p listed contains known number dropped merit = grind (arith, common_steps, map-map, opponents-met, totals_of-known)
 
     pub ArePlacings-each : (placings : List Placing) → All (λ (q : Player). IsKnown (length e.players) q.no) e.players

@@ -34,8 +34,8 @@ abbrev pub opponents_of : List Encounter → ℕ → List Totals
 opponents_of all player = map (λ e. e.opponent) (filter (λ e. e.player == player) all)
 
 -- the totals of the player of this number
-abbrev pub totals_of : List Tally → ℕ → Totals
-totals_of list player = slice_index_or (map (λ t. t.totals) list) (player - 1) no_totals
+abbrev pub tally_totals : List Tally → ℕ → Totals
+tally_totals list player = slice_index_or (map (λ t. t.totals) list) (player - 1) no_totals
 
 -- what the matches of one player can come to
 pub record IsRecord (t : Totals) : Type 0 where

@@ -2,6 +2,7 @@
 -- match-win, own game-win and opponents' game-win percentage.
 use Rattle.std.specs.Prelude.{◌≡◌, ℕ, ◌+◌, ◌*◌, nat_lt, Bool, not, ◌&&◌, ◌||◌, IsTrue, List, map, filter, take, count_by, All, AllPairs}
 use Rattle.std.specs.Prelude.{IsPermutation, Contains}
+use Rattle.std.specs.List.{filter_map}
 use Rattle.std.specs.declared.cmp.Ordering.{Ordering}
 use Rattle.std.specs.Ordering.{nat_cmp, ordering_then, is_gt, is_eq}
 use Rattle.er_share.specs.Fraction.{Fraction, fraction_cmp, percentage, average}
@@ -9,7 +10,7 @@ use Rattle.er_share.specs.Share.{IsShareOf}
 use Rattle.er_event.specs.Event.{EventValue}
 use Rattle.er_event.specs.Sound.{IsSoundButForSeeds}
 use Rattle.er_event.specs.declared.players.Player.{Player}
-use Rattle.er_event.specs.Appearances.{own_appearances}
+use Rattle.er_event.specs.Results.{results_of}
 use Rattle.er_event.specs.Totals.{totals}
 use Rattle.er_rank.specs.declared.rows.Row.{Row}
 
@@ -21,7 +22,7 @@ game_win event player = let own = totals event player in percentage own.game_poi
 
 -- one entry for each match; a bye is no opponent
 abbrev pub opponents : EventValue → ℕ → List ℕ
-opponents event player = filter (λ q. nat_lt 0 q) (map (λ l. l.opponent) (own_appearances event player))
+opponents event player = filter_map (λ r. r.opponent) (results_of event player)
 
 abbrev pub opponents_match_win : EventValue → ℕ → Fraction
 opponents_match_win event player = average (map (match_win event) (opponents event player))

@@ -1,8 +1,8 @@
 ghost use Rattle.std.specs.Prelude.{◌≡◌, not, ◌++◌, All, IfOk, OnOk, IsFalse, length, map, filter};
 ghost use Rattle.std.specs.List.{range_with_len};
 ghost use Rattle.er_event.specs.Round.{is_bye};
-ghost use Rattle.er_event.specs.Tallies.{counted_matches, meeting_by};
-ghost use Rattle.er_rank.specs.Meeting.{totals_of, AreKnownTo};
+ghost use Rattle.er_event.specs.Tallies.{complete_matches, meeting_by};
+ghost use Rattle.er_rank.specs.Meeting.{tally_totals, AreKnownTo};
 ghost use Rattle.er_rank.specs.Tally.{IsKnown};
 
 use er_event::{Match, Meeting, Round, Tally};
@@ -13,7 +13,7 @@ fn meeting_of(tallies: &[Tally], played: &Match) -> Meeting
     requires numbered { map (λ t. t.no) tallies.now ≡ range_with_len 1 (length tallies.now) }
     requires known { IsKnown (length tallies.now) played.now.a
         × IsKnown (length tallies.now) played.now.b }
-    ensures { result ≡ meeting_by (totals_of tallies.now) played.now }
+    ensures { result ≡ meeting_by (tally_totals tallies.now) played.now }
 {
     let lo = &tallies[usize::from(played.a.min(played.b)) - 1];
     let hi = &tallies[usize::from(played.a.max(played.b)) - 1];
@@ -33,7 +33,7 @@ fn push_meetings(
     requires numbered { map (λ t. t.no) tallies.now ≡ range_with_len 1 (length tallies.now) }
     requires known { AreKnownTo (length tallies.now) matches.now }
     ensures { OnOk result (meetings.new.items ≡ meetings.old.items
-        ++ map (meeting_by (totals_of tallies.now)) (filter (λ m. not (is_bye m)) matches.now)) }
+        ++ map (meeting_by (tally_totals tallies.now)) (filter (λ m. not (is_bye m)) matches.now)) }
 {
     for played in matches {
         if !played.is_bye() {
@@ -52,8 +52,8 @@ pub fn meetings_of(
     requires numbered { map (λ t. t.no) tallies.now ≡ range_with_len 1 (length tallies.now) }
     requires known { All (λ round. AreKnownTo (length tallies.now) round.matches) rounds.now }
     ensures { IfOk result (λ list. list.items
-        ≡ map (meeting_by (totals_of tallies.now))
-        (filter (λ m. not (is_bye m)) (counted_matches rounds.now))) }
+        ≡ map (meeting_by (tally_totals tallies.now))
+        (filter (λ m. not (is_bye m)) (complete_matches rounds.now))) }
 {
     let mut meetings = Vec::new(alloc);
     for round in rounds {

@@ -3,7 +3,7 @@ ghost use Rattle.std.specs.List.Sorted.{IsSorted};
 ghost use Rattle.er_event.specs.declared.players.TheConstants.{MAX_PLAYERS};
 ghost use Rattle.er_rank.specs.Meeting.{Encounter, AreTallies};
 ghost use Rattle.er_rank.specs.inside.Opponents.{AreOpponentsOf};
-ghost use Rattle.er_rank.specs.inside.Placing.{placing_cmp, is_level, row_of, ranked, ArePlacings, ArePlacingsInOrder};
+ghost use Rattle.er_rank.specs.inside.Placing.{placing_cmp, is_level, row_of, ranked_rows, ArePlacings, ArePlacingsInOrder};
 
 use crate::merits::{Merit, merit_of};
 use crate::opponents::Opponents;
@@ -83,7 +83,7 @@ pub fn placings_of(
 pub fn rows_of(alloc: Global, placings: &[Placing]) -> Result<Vec<Row>, AllocError>
     requires few { length placings.now ≤ MAX_PLAYERS }
     requires sorted { IsSorted placing_cmp placings.now }
-    ensures { IfOk result (λ rows. rows.items ≡ ranked placings.now) }
+    ensures { IfOk result (λ rows. rows.items ≡ ranked_rows placings.now) }
 {
     let mut rows = Vec::with_capacity(alloc, placings.len())?;
     let mut rank = 1;

@@ -3,7 +3,7 @@ use Rattle.std.proofs.Common.{arith, ◌≡◌, ◌⊎◌, ◌↔◌, inl, inr, 
 use Rattle.std.proofs.lemmas.Grind.{common_steps}
 use Rattle.er_event.specs.{declared.commands.Command.TheVariants.Pair, Event.EventValue, Change.with_round}
 use Rattle.er_pair.specs.{declared.pairings.PairFault.PairFault, declared.pairings.PairFault.TheVariants.{NoPairing, Budget, Memory}}
-use Rattle.er_pair.specs.{declared.pairings.TheConstants.MAX_STEPS, Fault.refusal_of, Met.have_met, Order.{seed_words, IsOrder}}
+use Rattle.er_pair.specs.{declared.pairings.TheConstants.MAX_STEPS, Fault.pair_refusal, Met.have_met, Order.{seed_words, IsOrder}}
 use Rattle.er_pair.specs.{Pairing.IsLegal, Steps.NeedsMore}
 use Rattle.er_event.specs.Round.{tables_of}
 use Rattle.er_rules.specs.{Commands.{first_refusal, pair_checks}, Step.{Steps, NeedsMoreSteps, Answers}}
@@ -38,7 +38,7 @@ module _ (e : EventValue) (round : ℕ) (seed : List ℕ) (free : first_refusal 
     pub refused_by : (fault : PairFault) → found ≡ Err fault
         → (found ≡ Err NoPairing → (pairs : List pairing.Pair) → IsLegal (have_met e) order pairs → ⊥)
         → ((steps : ℕ) → found ≡ Err (Budget steps) → steps ≡ 1000000)
-        → (refusal_of fault ≡ refusal.Memory) ⊎ Answers e (Pair round seed) (Err (refusal_of fault))
+        → (pair_refusal fault ≡ refusal.Memory) ⊎ Answers e (Pair round seed) (Err (pair_refusal fault))
     refused_by NoPairing is none count =
         inr (inl (none_steps (none is), enough (λ h. let never = sym is ∙ h in cc) (λ h. let never = sym is ∙ h in cc)))
     refused_by (Budget n) is none count = grind (arith, common_steps)

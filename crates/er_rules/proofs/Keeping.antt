@@ -7,7 +7,8 @@ use Rattle.std.specs.List.{slice_get}
 use Rattle.er_event.specs.{declared.events.Phase.Phase, declared.events.Phase.TheVariants.{Enrolling, Swiss, Playoff}}
 use Rattle.er_event.specs.{declared.commands.Command.Command, declared.commands.Command.TheVariants.{Enrol, Start, Pair, Cut}}
 use Rattle.er_event.specs.{declared.refusals.Refusal.Refusal, declared.brackets.Bracket.Bracket, declared.matches.Match.Match}
-use Rattle.er_event.specs.{declared.scores.Games.Games, Event.EventValue, Bracket.{SameSlots, open_match, following}, Change.scored}
+use Rattle.er_event.specs.{declared.scores.Games.Games, Event.EventValue, Bracket.{SameSlots, open_match, stage_after}}
+use Rattle.er_event.specs.Change.{match_with_score}
 use Rattle.er_event.specs.{Change.{stage_of, scored_slot, one_more, scored_stages}, Sound.IsSoundButForSeeds}
 use Rattle.er_rank.specs.{declared.rows.Row.Row, Standings.{IsRowOf, IsTop}}
 use Rattle.er_bracket.specs.Seeds.{first_stage}
@@ -62,7 +63,7 @@ same_then (a ∷ xs) [] cs p q = absurd p
 same_then (a ∷ xs) (b ∷ bs) [] p q = absurd q
 same_then (a ∷ xs) (b ∷ bs) (c ∷ cs) p q = ((p.0.0 ∙ q.0.0, p.0.1 ∙ q.0.1), same_then xs bs cs p.1 q.1)
 
-same_scored : (ms : List Match) (i : ℕ) (score : Games) (d : Match) → SameSlots (set ms i (scored score (get_or ms i d))) ms
+same_scored : (ms : List Match) (i : ℕ) (score : Games) (d : Match) → SameSlots (set ms i (match_with_score score (get_or ms i d))) ms
 same_scored [] i score d = tt
 same_scored (x ∷ ms) zero score d = ((refl, refl), same_itself ms)
 same_scored (x ∷ ms) (suc i) score d = ((refl, refl), same_scored ms i score d)
@@ -79,11 +80,11 @@ first_placed x stages zero t score later first at =
 first_placed x stages (suc i) t score later first at = (x, refl, rw (← same_Some x first at) (same_itself x))
 
 first_scored : (stages : List (List Match)) (k t : ℕ) (score : Games) (first : List Match)
-    → slice_get (scored_stages stages k t score (following (scored_slot (stage_of stages k) t score))) 0 ≡ Some first
+    → slice_get (scored_stages stages k t score (stage_after (scored_slot (stage_of stages k) t score))) 0 ≡ Some first
     → FirstWas stages first
 first_scored [] k t score first at = absurd (none-some first at)
 first_scored (x ∷ stages) k t score first at =
-    first_placed x stages (k - 1) t score (one_more (following (scored_slot (stage_of (x ∷ stages) k) t score))) first at
+    first_placed x stages (k - 1) t score (one_more (stage_after (scored_slot (stage_of (x ∷ stages) k) t score))) first at
 
 -- ---- the law
 

@@ -4,7 +4,8 @@ use Rattle.std.proofs.{Common.{get_or, All, Some, IfSome, IsTrue, sym, subst, ar
 use Rattle.std.proofs.lemmas.Option.{none-some, same_Some, slice_get_within}
 use Rattle.std.specs.List.{slice_get, AllByRecursion}
 use Rattle.er_event.specs.{declared.events.Phase.TheVariants.Playoff, declared.matches.Match.Match, declared.scores.Games.Games}
-use Rattle.er_event.specs.{Event.EventValue, Score.is_playoff_score, Bracket.{FollowOn, slot_at, open_match}, Change.{scored, stage_of}}
+use Rattle.er_event.specs.{Event.EventValue, Score.is_playoff_score, Bracket.{FollowOn, slot_at, open_match}}
+use Rattle.er_event.specs.Change.{match_with_score, stage_of}
 use Rattle.er_event.specs.{Change.scored_slot, Sound.IsSoundButForSeeds}
 use Rattle.er_rules.proofs.{Opening.{IsCut, is_cut}, Found.{Stored, found_stored}, SlotLemmas.same_length}
 
@@ -65,4 +66,4 @@ module _ (e : EventValue) (sound : IsSoundButForSeeds e) (playing : e.phase ≡ 
   lawful score is =
       let b = sound.bracket.bracket (inl playing) in
       let all : All IsLawful (stage_of stages k) = at_stage (All IsLawful) b.scores in
-      All-set IsLawful (stage_of stages k) (t - 1) (scored score (get_or (stage_of stages k) (t - 1) (open_match 0 0))) is all
+      All-set IsLawful (stage_of stages k) (t - 1) (match_with_score score (get_or (stage_of stages k) (t - 1) (open_match 0 0))) is all

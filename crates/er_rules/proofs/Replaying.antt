@@ -6,8 +6,9 @@ use Rattle.er_event.specs.{declared.scores.Games.Games, declared.events.Phase.Ph
 use Rattle.er_event.specs.{declared.matches.Match.Match, declared.commands.Command.Command, declared.commands.Command.TheVariants.Pair}
 use Rattle.er_event.specs.{declared.commands.Command.TheVariants.Cut, declared.refusals.Refusal.Refusal}
 use Rattle.er_event.specs.{declared.refusals.Refusal.TheVariants.BadScore, Event.EventValue, Bracket.{slot_at, open_match}}
-use Rattle.er_event.specs.{Score.is_playoff_score, Change.{scored, stage_of, scored_slot}}
-use Rattle.er_rules.specs.{Commands.{first_refusal, is_enrolling, is_swiss, is_playoff, already}, Step.{Steps, Makes, checks, scored_at}}
+use Rattle.er_event.specs.{Score.is_playoff_score, Change.{match_with_score, stage_of, scored_slot}}
+use Rattle.er_rules.specs.Commands.{first_refusal, is_enrolling, is_swiss, is_playoff, already_reported}
+use Rattle.er_rules.specs.Step.{Steps, Makes, checks, scored_at}
 use Rattle.er_rules.specs.{Fold.Folds, Retry.IsRetryRefusal}
 use Rattle.er_rules.proofs.{Found.{Stored, found_stored, stored_more, stored_now, stored_stays}, Keeping.{is_taken, same_Ok, stages_in}}
 use Rattle.er_rules.proofs.{Keeping.passes, Sound.asked, Retrying.{kept_on, IsOver, over_stays, not_again}, Rescoring.HasScore}
@@ -27,7 +28,7 @@ played_stays : (stage slot k t : ℕ) (s : Games) (stages : List (List Match)) �
     → IsPlayed stage slot (set stages (k - 1) (scored_slot (stage_of stages k) t s))
 played_stays stage slot k t s stages it =
     let stays : (ms : List Match) → HasPlayedSlot slot ms → HasPlayedSlot slot (scored_slot ms t s) = λ ms.
-    stored_stays HasScore (scored s) (open_match 0 0) (λ m has. (s, refl)) ms (t - 1) (slot - 1) in
+    stored_stays HasScore (match_with_score s) (open_match 0 0) (λ m has. (s, refl)) ms (t - 1) (slot - 1) in
     (it.0, stored_stays (HasPlayedSlot slot) (λ ms. scored_slot ms t s) [] stays stages (k - 1) (stage - 1) it.1)
 
 abbrev HasPlayed : ℕ → ℕ → EventValue → Type 0
@@ -57,7 +58,7 @@ played_now : (e : EventValue) (stage slot : ℕ) (s : Games) (m : Match) → slo
     → IsPlayed stage slot (set e.bracket.stages (stage - 1) (scored_at e stage slot s))
 played_now e stage slot s m at =
     let it = found_stored (stage == 0 || slot == 0) (λ ms. slice_get ms (slot - 1)) e.bracket.stages (stage - 1) m at in
-    let here = stored_now HasScore (scored s) (open_match 0 0) it.1.0 (slot - 1) (m, it.1.2, (s, refl)) in
+    let here = stored_now HasScore (match_with_score s) (open_match 0 0) it.1.0 (slot - 1) (m, it.1.2, (s, refl)) in
     (it.0, stored_now (HasPlayedSlot slot) (λ ms. scored_slot ms slot s) [] e.bracket.stages (stage - 1) (it.1.0, it.1.1, here))
 
 module _ (e next later : EventValue) (more : List Command) (folds : Folds next more later) (result : Result EventValue Refusal)
@@ -72,7 +73,7 @@ module _ (e next later : EventValue) (more : List Command) (folds : Folds next m
   play_again taken again =
       let it = is_taken e next (PlayOff stage slot score) taken in
       let pass = passes (checks e (PlayOff stage slot score)) it.0 in
-      let there = asked (slot_at e stage slot) (λ m. already m.score ++ (not (is_playoff_score score), BadScore) ∷ []) pass.1 in
+      let there = asked (slot_at e stage slot) (λ m. already_reported m.score ++ (not (is_playoff_score score), BadScore) ∷ []) pass.1 in
       let is = same_Ok next _ it.1 in
       let left = playoff_over e.phase _ (not-false _ pass.0) in
       let over : IsOver next =

@@ -6,11 +6,12 @@ use Rattle.std.specs.Option.{option_map}
 use Rattle.er_event.specs.{declared.scores.Games.Games, declared.matches.Match.Match, declared.rounds.Round.Round}
 use Rattle.er_event.specs.{declared.commands.Command.Command, declared.commands.Command.TheVariants.{Pair, Correct, Cut}}
 use Rattle.er_event.specs.{declared.refusals.Refusal.Refusal, declared.refusals.Refusal.TheVariants.{IsBye, BadScore}, Event.EventValue}
-use Rattle.er_event.specs.{Round.{is_bye, numbered_from, is_at, match_in, match_at}, Score.is_swiss_score, Change.{scored, score_table}}
-use Rattle.er_rules.specs.{Commands.{is_enrolling, already}, Step.{Steps, Makes, checks}, Fold.Folds, Retry.IsRetryRefusal}
+use Rattle.er_event.specs.{Round.{is_bye, numbered_from, is_at, match_in, match_at}, Score.is_swiss_score}
+use Rattle.er_event.specs.Change.{match_with_score, score_table}
+use Rattle.er_rules.specs.{Commands.{is_enrolling, already_reported}, Step.{Steps, Makes, checks}, Fold.Folds, Retry.IsRetryRefusal}
 use Rattle.er_rules.proofs.{Found.{find_mapped, find_passes, Stored, found_stored, stored_more, stored_now, stored_stays}, Keeping.is_taken}
 use Rattle.er_rules.proofs.{Keeping.{same_Ok, passes}, Sound.asked, Retrying.{kept_on, begun_stays, swiss_began}}
-use Rattle.er_event.specs.declared.commands.Command.TheVariants.{Pair, Result as Report, Correct, Cut}
+use Rattle.er_event.specs.declared.commands.Command.TheVariants.{Pair, Result as ReportResult, Correct, Cut}
 
 -- ---- the tables of a round
 
@@ -32,10 +33,10 @@ numbered_scored u n s (m ∷ ms) = ap (λ (l : List (ℕ × Match)). scored_tabl
 
 module _ (t u : ℕ) (s : Games) where
   table_same : (p : ℕ × Match) → is_at t (scored_table u s p) ≡ is_at t p
-  table_same p = cond_both (is_at u p) (scored s p.1) p.1 (λ (x : Match). is_at t (p.0, x) ≡ is_at t p) (λ _. refl) (λ _. refl)
+  table_same p = cond_both (is_at u p) (match_with_score s p.1) p.1 (λ (x : Match). is_at t (p.0, x) ≡ is_at t p) (λ _. refl) (λ _. refl)
 
   bye_same : (p : ℕ × Match) → is_bye (score_table u s p) ≡ is_bye p.1
-  bye_same p = cond_both (is_at u p) (scored s p.1) p.1 (λ (x : Match). is_bye x ≡ is_bye p.1) (λ _. refl) (λ _. refl)
+  bye_same p = cond_both (is_at u p) (match_with_score s p.1) p.1 (λ (x : Match). is_bye x ≡ is_bye p.1) (λ _. refl) (λ _. refl)
 
   -- a table at which a match of two players was found is found after a score
   hit_after : (ms : List Match) (p : ℕ × Match) → find (is_at t) (numbered_from 1 ms) ≡ Some p → is_bye p.1 ≡ false
@@ -46,7 +47,7 @@ module _ (t u : ℕ) (s : Games) where
 
   hit_stays : (ms : List Match) → Hit t (numbered_from 1 ms) → Hit t (numbered_from 1 (map (score_table u s) (numbered_from 1 ms)))
   hit_stays ms (p, found, two, has) =
-      hit_after ms p found two (cond_both (is_at u p) (scored s p.1) p.1 HasScore (λ _. (s, refl)) (λ _. has))
+      hit_after ms p found two (cond_both (is_at u p) (match_with_score s p.1) p.1 HasScore (λ _. (s, refl)) (λ _. has))
 
 found_in : (ms : List Match) (t : ℕ) (m : Match) → match_in ms t ≡ Some m
     → (p : ℕ × Match) × (find (is_at t) (numbered_from 1 ms) ≡ Some p) × (p.1 ≡ m)
@@ -103,7 +104,7 @@ entered_kept round table e next c steps has = (begun_stays e next c steps has.0,
 
     made : (c : Command) → Makes e c (Ok next) → IsEntered round table next.stored
     made (Pair k seed) is = as_now (ap rounds_in is.2.2) (has.1.0, stored_more (HitIn table) e.stored _ (round - 1) has.1.1)
-    made (Report k t s) is = as_now (ap rounds_in (same_Ok next _ is)) (scored_now k t s)
+    made (ReportResult k t s) is = as_now (ap rounds_in (same_Ok next _ is)) (scored_now k t s)
     made (Correct k t s) is = as_now (ap rounds_in (same_Ok next _ is)) (scored_now k t s)
     made Cut is = as_now (ap rounds_in (same_Ok next _ is.2)) has.1
     made c is = as_now (ap rounds_in (same_Ok next _ is)) has.1
@@ -121,17 +122,17 @@ entered_now e round table s m at two =
 module _ (e next later : EventValue) (more : List Command) (folds : Folds next more later) (result : Result EventValue Refusal)
     (round table : ℕ) (score : Games) where
   abbrev Refused : Type 0
-  Refused = (why : Refusal) × (result ≡ Err why) × IsRetryRefusal (Report round table score) why
+  Refused = (why : Refusal) × (result ≡ Err why) × IsRetryRefusal (ReportResult round table score) why
 
-  refused_later : IsEntered round table later.stored → Steps later (Report round table score) result → Refused
+  refused_later : IsEntered round table later.stored → Steps later (ReportResult round table score) result → Refused
   refused_later it again = grind (arith, common_steps)
 
-  pub report_again : Steps e (Report round table score) (Ok next) → Steps later (Report round table score) result → Refused
+  pub report_again : Steps e (ReportResult round table score) (Ok next) → Steps later (ReportResult round table score) result → Refused
   report_again taken again =
-      let it = is_taken e next (Report round table score) taken in
-      let pass = passes (checks e (Report round table score)) it.0 in
+      let it = is_taken e next (ReportResult round table score) taken in
+      let pass = passes (checks e (ReportResult round table score)) it.0 in
       let there = asked (match_at e round table)
-      (λ m. (is_bye m, IsBye) ∷ already m.score ++ (not (is_swiss_score score), BadScore) ∷ []) pass.1 in
+      (λ m. (is_bye m, IsBye) ∷ already_reported m.score ++ (not (is_swiss_score score), BadScore) ∷ []) pass.1 in
       let is = same_Ok next _ it.1 in
       let entered = subst (IsEntered round table) (sym (ap rounds_in is)) (entered_now e round table score there.0 there.1 there.2.0) in
       let begun = ap (λ (x : EventValue). is_enrolling x.phase) is ∙ swiss_began e.phase (not-false _ pass.0) in

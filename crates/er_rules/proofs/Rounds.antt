@@ -13,7 +13,7 @@ use Rattle.std.proofs.{lemmas.List.Sorted.length_permutation, lemmas.Map.Keys.Is
 use Rattle.std.proofs.lemmas.Map.Made.{AllPairs-from_IsDistinct, IsDistinct-from_AllPairs}
 use Rattle.std.specs.List.{list_any, range_with_len, AllByRecursion}
 use Rattle.er_event.specs.{declared.events.Phase.TheVariants.Swiss, declared.players.Player.Player, declared.matches.Match.Match}
-use Rattle.er_event.specs.{declared.rounds.Round.Round, Event.EventValue, Score.{is_swiss_score, bye_score}, Round.{is_bye, is_counted}}
+use Rattle.er_event.specs.{declared.rounds.Round.Round, Event.EventValue, Score.{is_swiss_score, bye_score}, Round.{is_bye, is_complete}}
 use Rattle.er_event.specs.{Round.{is_same_pairing, seats, matches_of}, Sound.{numbers, IsRound, IsSoundButForSeeds}, Change.IsNextRound}
 use Rattle.er_pair.specs.{Met.have_met, Order.{active_numbers, IsOrder}, Pairing.{Pair, positions, all_positions, IsEarliest, entries}}
 use Rattle.er_rules.specs.Commands.{active, newest_is_open}
@@ -136,17 +136,17 @@ sits_opposite e p h1 plays = grind (arith, common_steps)
 
 -- ---- the rounds before
 
-none_open : (rs : List Round) → list_any (λ (r : Round). not (is_counted r.matches)) rs ≡ false
-    → AllByRecursion (λ (r : Round). IsTrue (is_counted r.matches)) rs
+none_open : (rs : List Round) → list_any (λ (r : Round). not (is_complete r.matches)) rs ≡ false
+    → AllByRecursion (λ (r : Round). IsTrue (is_complete r.matches)) rs
 none_open [] h = tt
 none_open (r ∷ rs) h =
     let both = or_parts _ _ h in
-    (not-false (is_counted r.matches) both.0, none_open rs both.1)
+    (not-false (is_complete r.matches) both.0, none_open rs both.1)
 
 rounds_done : (e : EventValue) → IsSoundButForSeeds e → IsFalse (newest_is_open e)
-    → All (λ (r : Round). IsTrue (is_counted r.matches)) e.stored
+    → All (λ (r : Round). IsTrue (is_complete r.matches)) e.stored
 rounds_done e sound closed =
-    let done : Round → Type 0 = λ r. IsTrue (is_counted r.matches) in
+    let done : Round → Type 0 = λ r. IsTrue (is_complete r.matches) in
     let n = length e.stored - 1 in
     let last = All-from_recursion done (drop n e.stored) (none_open (drop n e.stored) closed) in
     rw (take-append-drop n e.stored) at (All-append done (take n e.stored) (drop n e.stored) sound.rounds.earlier_done last)

@@ -5,9 +5,10 @@ use Rattle.er_event.specs.{declared.scores.Games.Games, declared.matches.Match.M
 use Rattle.er_event.specs.declared.commands.Command.TheVariants.{Enrol, Start, Pair, Correct, Drop, Cut}
 use Rattle.er_event.specs.{declared.refusals.Refusal.Refusal, declared.refusals.Refusal.TheVariants.Budget, Event.EventValue}
 use Rattle.er_event.specs.{Round.match_at, Bracket.slot_at}
-use Rattle.er_rules.specs.{Commands.{Check, first_refusal, checks_at, already}, Step.{Answers, Steps, Makes, NeedsMoreSteps, Refuses}}
+use Rattle.er_rules.specs.Commands.{Check, first_refusal, checks_at, already_reported}
+use Rattle.er_rules.specs.Step.{Answers, Steps, Makes, NeedsMoreSteps, Refuses}
 use Rattle.er_rules.specs.Step.{checks}
-use Rattle.er_event.specs.declared.commands.Command.TheVariants.{Enrol, Start, Pair, Result as Report, Correct, Drop, Cut}
+use Rattle.er_event.specs.declared.commands.Command.TheVariants.{Enrol, Start, Pair, Result as ReportResult, Correct, Drop, Cut}
 use Rattle.er_event.specs.declared.commands.Command.TheVariants.{Playoff as PlayOff}
 
 abbrev is_budget : Refusal → Bool
@@ -23,7 +24,7 @@ first_of [] why all is = absurd (none-some why is)
 first_of ((true, w) ∷ cs) why all is = subst (λ (x : Refusal). is_budget x ≡ false) (same_Some w why is) all.0
 first_of ((false, w) ∷ cs) why all is = first_of cs why all.1 is
 
-scored_already : (score : Option Games) (rest : List Check) → NoBudget rest → NoBudget (already score ++ rest)
+scored_already : (score : Option Games) (rest : List Check) → NoBudget rest → NoBudget (already_reported score ++ rest)
 scored_already h1 rest all = grind (arith, common_steps)
 
 at_match : (m : Option Match) (more : Match → List Check) → ((x : Match) → NoBudget (more x)) → NoBudget (checks_at m more)
@@ -33,7 +34,7 @@ no_check : (e : EventValue) (c : Command) → NoBudget (checks e c)
 no_check e (Enrol name) = (refl, (refl, (refl, (refl, (refl, tt)))))
 no_check e Start = (refl, (refl, tt))
 no_check e (Pair round seed) = (refl, (refl, (refl, (refl, (refl, tt)))))
-no_check e (Report round table score) = (refl, at_match (match_at e round table) _ (λ m. (refl, scored_already m.score _ (refl, tt))))
+no_check e (ReportResult round table score) = (refl, at_match (match_at e round table) _ (λ m. (refl, scored_already m.score _ (refl, tt))))
 no_check e (Correct round table score) = (refl, at_match (match_at e round table) _ (λ m. (refl, (refl, (refl, tt)))))
 no_check e (Drop player) = grind (arith, common_steps)
 no_check e Cut = (refl, (refl, (refl, (refl, tt))))

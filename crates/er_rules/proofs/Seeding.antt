@@ -11,7 +11,7 @@ use Rattle.er_event.specs.{declared.players.Player.Player, declared.matches.Matc
 use Rattle.er_event.specs.{declared.events.Phase.TheVariants.{Swiss, Playoff}, Change.{after, IsOpening}, Event.EventValue, Sound.numbers}
 use Rattle.er_event.specs.{Sound.IsSoundButForSeeds, Bracket.open_match}
 use Rattle.er_rank.specs.{declared.rows.Row.Row, Standings.{IsRowOf, AreStandings, IsTop}}
-use Rattle.er_bracket.specs.Seeds.{seeds_by_slot, seeded, first_stage}
+use Rattle.er_bracket.specs.Seeds.{seeds_by_slot, player_of_seed, first_stage}
 use Rattle.er_rules.specs.Commands.{active, all_rounds_done}
 use Rattle.er_rules.proofs.{Rounds.apart_moved, Opening.{is_cut, seated, opens, rounds_done}}
 
@@ -156,6 +156,7 @@ module _ (e : EventValue) (sound : IsSoundButForSeeds e) (seeds : List ℕ) wher
           slots = it.slots ∙ ap (λ n. n / 2) top_length;
           known = All-permutation (Contains (numbers e.players)) seeds (seated seeds) it.same (rw (← top.top) at known);
           seated_once = apart_moved seeds (seated seeds) it.same (rw (← top.top) at apart);
-          unplayed = All-map (λ (m : Match). m.score ≡ None) (λ (s : ℕ × ℕ). open_match (seeded seeds s.0) (seeded seeds s.1))
+          unplayed =
+              All-map (λ (m : Match). m.score ≡ None) (λ (s : ℕ × ℕ). open_match (player_of_seed seeds s.0) (player_of_seed seeds s.1))
               (seeds_by_slot (length seeds)) (λ k d below. refl);
         }

@@ -8,20 +8,20 @@ use Rattle.er_event.specs.{declared.changes.Change.TheVariants.SetBracketScore, 
 use Rattle.er_event.specs.declared.commands.Command.TheVariants.{Enrol, Start, Pair, Correct, Drop, Cut}
 use Rattle.er_event.specs.{declared.refusals.Refusal.Refusal, declared.refusals.Refusal.TheVariants.{IsBye, BadScore, NotReported}}
 use Rattle.er_event.specs.{Event.EventValue, Name.is_lawful_name, Score.{is_swiss_score, is_playoff_score}, Round.{is_bye, match_at}}
-use Rattle.er_event.specs.{Bracket.{slot_at, following, is_over}, Sound.IsSoundButForSeeds, Safe.ChangesKeepSound}
+use Rattle.er_event.specs.{Bracket.{slot_at, stage_after, is_over}, Sound.IsSoundButForSeeds, Safe.ChangesKeepSound}
 use Rattle.er_bracket.specs.Seeds.{first_stage}
 use Rattle.er_pair.specs.{Met.have_met, Order.seed_words, Pairing.entries, Laws.{StandOnce, LegalSeats}}
-use Rattle.er_rules.specs.{Commands.{Check, active, already, checks_at}, Step.{Steps, Makes, checks, scored_at}, Sound.IsSound}
+use Rattle.er_rules.specs.{Commands.{Check, active, already_reported, checks_at}, Step.{Steps, Makes, checks, scored_at}, Sound.IsSound}
 use Rattle.er_event.specs.Round.{tables_of}
 use Rattle.er_rules.proofs.{Rounds.{IsPairing, may_come_next}, Seeding.{top_opens, begins}, Keeping.{is_taken, same_Ok}}
 use Rattle.er_rules.proofs.Keeping.{AllPass, passes, enrolling_is, swiss_is, step_keeps}
-use Rattle.er_event.specs.declared.commands.Command.TheVariants.{Enrol, Start, Pair, Result as Report, Correct, Drop, Cut}
+use Rattle.er_event.specs.declared.commands.Command.TheVariants.{Enrol, Start, Pair, Result as ReportResult, Correct, Drop, Cut}
 use Rattle.er_event.specs.declared.commands.Command.TheVariants.{Playoff as PlayOff}
 
 pub asked : (o : Option Match) (more : Match → List Check) → AllPass (checks_at o more) → (m : Match) × (o ≡ Some m) × AllPass (more m)
 asked h1 more is = grind (arith, common_steps)
 
-pub open_yet : (o : Option Games) (rest : List Check) → AllPass (already o ++ rest) → (o ≡ None) × AllPass rest
+pub open_yet : (o : Option Games) (rest : List Check) → AllPass (already_reported o ++ rest) → (o ≡ None) × AllPass rest
 open_yet h1 rest is = grind (arith, common_steps)
 
 module _ (keeps : ChangesKeepSound) (once : StandOnce) (seats : LegalSeats) (e next : EventValue) (h : IsSoundButForSeeds e) where
@@ -57,9 +57,9 @@ module _ (keeps : ChangesKeepSound) (once : StandOnce) (seats : LegalSeats) (e n
       let may = may_come_next e (seed_words seed) order ps ordered distinct two it h (swiss_is e.phase pass.0) room pass.1.1.1.0 in
       let same = sym is in
       subst IsSoundButForSeeds same (keeps e (AddRound (tables_of ps)) h may)
-  after (Report round table score) pass made =
+  after (ReportResult round table score) pass made =
       let m = asked (match_at e round table)
-      (λ m. (is_bye m, IsBye) ∷ already m.score ++ (not (is_swiss_score score), BadScore) ∷ []) pass.1 in
+      (λ m. (is_bye m, IsBye) ∷ already_reported m.score ++ (not (is_swiss_score score), BadScore) ∷ []) pass.1 in
       let lawful = open_yet m.0.score ((not (is_swiss_score score), BadScore) ∷ []) m.2.1 in
       is_now _ made (keeps e (SetScore round table score) h ((m.0, m.1, m.2.0), not-false (is_swiss_score score) lawful.1.0))
   after (Correct round table score) pass made =
@@ -77,10 +77,10 @@ module _ (keeps : ChangesKeepSound) (once : StandOnce) (seats : LegalSeats) (e n
       let opens = top_opens e h seeds top enough phase (not-false _ pass.1.1.0) played in
       is_now _ is (subst IsSoundButForSeeds (begins e h seeds phase) (keeps e (AddBracket (first_stage seeds)) h opens))
   after (PlayOff stage slot score) pass made =
-      let m = asked (slot_at e stage slot) (λ m. already m.score ++ (not (is_playoff_score score), BadScore) ∷ []) pass.1 in
+      let m = asked (slot_at e stage slot) (λ m. already_reported m.score ++ (not (is_playoff_score score), BadScore) ∷ []) pass.1 in
       let free = open_yet m.0.score ((not (is_playoff_score score), BadScore) ∷ []) m.2 in
       let now = scored_at e stage slot score in
-      is_now _ made (keeps e (SetBracketScore stage slot score (following now) (is_over now)) h
+      is_now _ made (keeps e (SetBracketScore stage slot score (stage_after now) (is_over now)) h
       (m.0, m.1, free.0, not-false (is_playoff_score score) free.1.0, refl, refl))
 
 pub keeps_sound : ChangesKeepSound → StandOnce → LegalSeats → (e next : EventValue) (c : Command) → IsSound e → Steps e c (Ok next)

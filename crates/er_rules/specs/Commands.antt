@@ -18,7 +18,7 @@ use Rattle.er_event.specs.declared.rounds.Round.{Round}
 use Rattle.er_event.specs.declared.players.TheConstants.{MAX_PLAYERS}
 use Rattle.er_event.specs.Name.{is_lawful_name}
 use Rattle.er_event.specs.Score.{is_swiss_score, is_playoff_score}
-use Rattle.er_event.specs.Round.{is_bye, is_counted, match_at}
+use Rattle.er_event.specs.Round.{is_bye, is_complete, match_at}
 use Rattle.er_event.specs.Bracket.{slot_at}
 use Rattle.er_event.specs.Change.{has_name}
 
@@ -38,11 +38,11 @@ abbrev pub active : EventValue → List Player
 active event = filter (λ p. not p.dropped) event.players
 
 abbrev pub newest_is_open : EventValue → Bool
-newest_is_open event = list_any (λ (r : Round). not (is_counted r.matches)) (drop (length event.stored - 1) event.stored)
+newest_is_open event = list_any (λ (r : Round). not (is_complete r.matches)) (drop (length event.stored - 1) event.stored)
 
 -- all Swiss rounds are paired and complete
 abbrev pub all_rounds_done : EventValue → Bool
-all_rounds_done event = length event.stored == event.rounds && list_all (λ (r : Round). is_counted r.matches) event.stored
+all_rounds_done event = length event.stored == event.rounds && list_all (λ (r : Round). is_complete r.matches) event.stored
 
 -- a check that fails, with the refusal that it means
 abbrev pub Check : Type 0
@@ -76,9 +76,9 @@ pair_checks event round =
     ∷ (nat_lt (length (active event)) 2, TooFewPlayers)
     ∷ []
 
-abbrev pub already : Option Games → List Check
-already None = []
-already (Some s) = (true, AlreadyReported s) ∷ []
+abbrev pub already_reported : Option Games → List Check
+already_reported None = []
+already_reported (Some s) = (true, AlreadyReported s) ∷ []
 
 abbrev pub checks_at : Option Match → (Match → List Check) → List Check
 checks_at None more = (true, NoSuchMatch) ∷ []
@@ -90,7 +90,8 @@ score_checks event round table more =
     (not (is_swiss event.phase), NotSwiss) ∷ checks_at (match_at event round table) (λ m. (is_bye m, IsBye) ∷ more m)
 
 abbrev pub result_checks : EventValue → ℕ → ℕ → Games → List Check
-result_checks event round table score = score_checks event round table (λ m. already m.score ++ (not (is_swiss_score score), BadScore) ∷ [])
+result_checks event round table score =
+    score_checks event round table (λ m. already_reported m.score ++ (not (is_swiss_score score), BadScore) ∷ [])
 
 abbrev pub correct_checks : EventValue → ℕ → ℕ → Games → List Check
 correct_checks event round table score =
@@ -113,4 +114,4 @@ cut_checks event =
 
 abbrev pub playoff_checks : EventValue → ℕ → ℕ → Games → List Check
 playoff_checks event stage slot score = (not (is_playoff event.phase), NotPlayoff) ∷ checks_at (slot_at event stage slot) (λ m.
-    already m.score ++ (not (is_playoff_score score), BadScore) ∷ [])
+    already_reported m.score ++ (not (is_playoff_score score), BadScore) ∷ [])

@@ -1,6 +1,6 @@
 -- Which refusals a command may meet.
 use Rattle.er_event.specs.declared.commands.Command.{Command}
-use Rattle.er_event.specs.declared.commands.Command.TheVariants.{Enrol, Start, Result as Report, Correct, Drop}
+use Rattle.er_event.specs.declared.commands.Command.TheVariants.{Enrol, Start, Result as ReportResult, Correct, Drop}
 use Rattle.er_event.specs.declared.refusals.Refusal.{Refusal}
 use Rattle.er_event.specs.declared.refusals.Refusal.TheVariants.{SerialFull, Memory, Store, NeedsReopen, NoEvent, EventExists, Damaged}
 use Rattle.er_event.specs.declared.refusals.Refusal.TheVariants.{BadSetup}
@@ -21,7 +21,7 @@ IsOfRules _ = Unit {0}
 abbrev pub TakesMemory : Command → Type 0
 TakesMemory (Enrol name) = ⊥
 TakesMemory Start = ⊥
-TakesMemory (Report round table score) = ⊥
+TakesMemory (ReportResult round table score) = ⊥
 TakesMemory (Correct round table score) = ⊥
 TakesMemory (Drop player) = ⊥
 TakesMemory _ = Unit {0}

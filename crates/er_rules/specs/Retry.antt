@@ -2,7 +2,7 @@
 use Rattle.std.specs.Prelude.{◌≡◌, ◌⊎◌, ℕ, IsTrue, List, Result, Ok, Err}
 use Rattle.er_event.specs.declared.scores.Games.{Games}
 use Rattle.er_event.specs.declared.commands.Command.{Command}
-use Rattle.er_event.specs.declared.commands.Command.TheVariants.{Enrol, Start, Pair, Result as Report, Correct, Drop, Cut}
+use Rattle.er_event.specs.declared.commands.Command.TheVariants.{Enrol, Start, Pair, Result as ReportResult, Correct, Drop, Cut}
 use Rattle.er_event.specs.declared.commands.Command.TheVariants.{Playoff as PlayOff}
 use Rattle.er_event.specs.declared.refusals.Refusal.{Refusal}
 use Rattle.er_event.specs.declared.refusals.Refusal.TheVariants.{NameTaken, AllRoundsPaired, NotEnrolling, NotSwiss, WrongRound}
@@ -18,7 +18,7 @@ abbrev pub IsRetryRefusal : Command → Refusal → Type 0
 IsRetryRefusal (Enrol name) why = (why ≡ NameTaken) ⊎ (why ≡ AllRoundsPaired) ⊎ (why ≡ NotEnrolling)
 IsRetryRefusal Start why = why ≡ NotEnrolling
 IsRetryRefusal (Pair round seed) why = ((next : ℕ) × (why ≡ WrongRound next)) ⊎ (why ≡ NotSwiss)
-IsRetryRefusal (Report round table score) why = ((stored : Games) × (why ≡ AlreadyReported stored)) ⊎ (why ≡ NotSwiss)
+IsRetryRefusal (ReportResult round table score) why = ((stored : Games) × (why ≡ AlreadyReported stored)) ⊎ (why ≡ NotSwiss)
 IsRetryRefusal (Correct round table score) why = ⊥
 IsRetryRefusal (Drop player) why = (why ≡ AlreadyDropped) ⊎ (why ≡ NotSwiss)
 IsRetryRefusal Cut why = why ≡ NotSwiss

@@ -2,7 +2,7 @@
 use Rattle.std.specs.Prelude.{◌≡◌, ◌⊎◌, ℕ, List, [], ◌∷◌, ◌++◌, None, MatchOption, Result, Ok, Err}
 use Rattle.er_event.specs.declared.scores.Games.{Games}
 use Rattle.er_event.specs.declared.commands.Command.{Command}
-use Rattle.er_event.specs.declared.commands.Command.TheVariants.{Enrol, Start, Pair, Result as Report, Correct, Drop, Cut}
+use Rattle.er_event.specs.declared.commands.Command.TheVariants.{Enrol, Start, Pair, Result as ReportResult, Correct, Drop, Cut}
 use Rattle.er_event.specs.declared.commands.Command.TheVariants.{Playoff as PlayOff}
 use Rattle.er_event.specs.declared.refusals.Refusal.{Refusal}
 use Rattle.er_event.specs.declared.refusals.Refusal.TheVariants.{NoPairing, Budget}
@@ -11,7 +11,7 @@ use Rattle.er_event.specs.declared.matches.Match.{Match}
 use Rattle.er_event.specs.Event.{EventValue}
 use Rattle.er_event.specs.Change.{with_player, with_dropped, with_phase, with_score, stage_of, scored_slot, with_bracket_score}
 use Rattle.er_rank.specs.Standings.{IsTop}
-use Rattle.er_event.specs.Bracket.{following, is_over}
+use Rattle.er_event.specs.Bracket.{stage_after, is_over}
 use Rattle.er_bracket.specs.Seeds.{first_stage}
 use Rattle.er_pair.specs.Met.{have_met}
 use Rattle.er_pair.specs.Order.{seed_words, IsOrder}
@@ -32,7 +32,7 @@ scored_at event stage slot score = scored_slot (stage_of event.bracket.stages st
 abbrev pub with_stage_score : EventValue → ℕ → ℕ → Games → EventValue
 with_stage_score event stage slot score =
     with_bracket_score event stage slot score
-    (following (scored_at event stage slot score)) (is_over (scored_at event stage slot score))
+    (stage_after (scored_at event stage slot score)) (is_over (scored_at event stage slot score))
 
 -- ---- the step
 
@@ -48,7 +48,7 @@ abbrev pub Makes : EventValue → Command → Result EventValue Refusal → Type
 Makes event (Enrol name) result = result ≡ Ok (with_player event name)
 Makes event Start result = result ≡ Ok (with_phase event Swiss)
 Makes event (Pair round seed) result = (order : List ℕ) × IsOrder event (seed_words seed) order × Pairs event order result
-Makes event (Report round table score) result = result ≡ Ok (with_score event round table score)
+Makes event (ReportResult round table score) result = result ≡ Ok (with_score event round table score)
 Makes event (Correct round table score) result = result ≡ Ok (with_score event round table score)
 Makes event (Drop player) result = result ≡ Ok (with_dropped event player)
 Makes event Cut result =
@@ -61,7 +61,7 @@ abbrev pub checks : EventValue → Command → List Check
 checks event (Enrol name) = enrol_checks event name
 checks event Start = start_checks event
 checks event (Pair round seed) = pair_checks event round
-checks event (Report round table score) = result_checks event round table score
+checks event (ReportResult round table score) = result_checks event round table score
 checks event (Correct round table score) = correct_checks event round table score
 checks event (Drop player) = drop_checks event player
 checks event Cut = cut_checks event

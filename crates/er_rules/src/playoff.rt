@@ -1,7 +1,7 @@
 ghost use Rattle.std.specs.Prelude.{◌≡◌, ◌⊎◌, ◌<◌, ◌≤◌, ◌≢◌, length, List, All, IfOk, IfErr, OnOk, IfSome, None, Some, Ok, IsTrue, IsFalse};
 ghost use Rattle.std.specs.List.{list_all};
-ghost use Rattle.er_event.specs.Round.{is_counted};
-ghost use Rattle.er_event.specs.Bracket.{slot_at, following, is_over};
+ghost use Rattle.er_event.specs.Round.{is_complete};
+ghost use Rattle.er_event.specs.Bracket.{slot_at, stage_after, is_over};
 ghost use Rattle.er_event.specs.Change.{after, scored_slot, Fits, IsOpening};
 ghost use Rattle.er_event.specs.Score.{is_playoff_score};
 ghost use Rattle.er_event.specs.Sound.{AllRoundsDone, IsSoundButForSeeds};
@@ -20,7 +20,7 @@ use er_rank::top;
 use std::alloc::{AllocError, Global};
 
 fn are_complete(rounds: &[Round]) -> bool
-    ensures { result ≡ list_all (λ r. is_counted r.matches) rounds.now }
+    ensures { result ≡ list_all (λ r. is_complete r.matches) rounds.now }
 {
     rounds.iter().all(|round| round.is_complete())
 }
@@ -86,7 +86,7 @@ fn stage_after(alloc: Global, matches: &[Match]) -> Result<Option<Items<Match>>,
     requires slots { (length matches.now ≡ 1) ⊎ (length matches.now ≡ 2)
         ⊎ (length matches.now ≡ 4) }
     requires scores { All (λ m. IfSome m.score (λ s. IsTrue (is_playoff_score s))) matches.now }
-    ensures { IfOk result (λ next. next ≡ following matches.now) }
+    ensures { IfOk result (λ next. next ≡ stage_after matches.now) }
 {
     if matches.len() == 1 || !is_complete(matches) {
         return Ok(None);
@@ -115,7 +115,8 @@ fn check_playoff(event: &Event, stage: u8, slot: u8, games: Games) -> Result<Sco
     ensures playing { OnOk result (event.now.phase ≡ Playoff) }
     ensures found { OnOk result ((m : Match) × (slot_at event.now stage slot ≡ Some m)) }
     ensures fits { OnOk result (Fits event.now
-        (Change.SetBracketScore stage slot games (following (scored_at event.now stage slot games))
+        (Change.SetBracketScore stage slot games
+        (stage_after (scored_at event.now stage slot games))
         (is_over (scored_at event.now stage slot games)))) }
     ensures refused { IfErr result (λ why. first_refusal (playoff_checks event.now stage slot games)
         ≡ Some why) }
@@ -156,7 +157,8 @@ pub fn decide_playoff(
     games: Games,
 ) -> Result<Change, Refusal>
     ensures change { IfOk result (λ change. change
-        ≡ Change.SetBracketScore stage slot games (following (scored_at event.now stage slot games))
+        ≡ Change.SetBracketScore stage slot games
+        (stage_after (scored_at event.now stage slot games))
         (is_over (scored_at event.now stage slot games))) }
     ensures fits { IfOk result (Fits event.now) }
     ensures accepted { OnOk result (first_refusal (playoff_checks event.now stage slot games)

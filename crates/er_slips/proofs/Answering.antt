@@ -7,13 +7,13 @@ use Rattle.std.proofs.{Common.{refl, ap, subst, ◌∙◌}, lemmas.Bool.Decides.
 use Rattle.std.specs.Io.KnownBytes.{Keeps}
 use Rattle.sqlite_trees.specs.declared.store.Store.{Ghosts}
 use Rattle.er_event.specs.{declared.refusals.Refusal.Refusal, declared.refusals.Refusal.TheVariants.{Memory}}
-use Rattle.er_event.specs.{declared.scores.Games.Games, declared.commands.Command.TheVariants.{Result as Hand}}
+use Rattle.er_event.specs.{declared.scores.Games.Games, declared.commands.Command.TheVariants.{Result as ReportResult}}
 use Rattle.er_json.specs.Slip.{slip_games}
 use Rattle.er_store.specs.Fault.{IsFault}
 use Rattle.er_desk.specs.declared.desk.Desk.{Desk}
 use Rattle.er_desk.specs.Asking as desk
 use Rattle.er_desk.specs.Desk.{DeskState, desk_state, point_of}
-use Rattle.er_desk.specs.{Reply.{Reply, IsDue, IsLawful}, Run.{Session, no_session}}
+use Rattle.er_desk.specs.{Reply.{Reply, IsDue, IsLawfulReply}, Run.{Session, no_session}}
 use Rattle.er_answers.specs.{Answers.{AsksFor, session_at}, Due.{IsAnswerAt, IsDueAt, OrFault}, Question.reply_told}
 use Rattle.er_answers.specs.declared.question.{Told.Told, Told.TheVariants.{Accepted, Text, Slip as SlipText, Refused as Declined}}
 use Rattle.er_slips.specs.declared.request.wanted.Request.{Request}
@@ -24,11 +24,11 @@ use Rattle.er_slips.specs.declared.request.wanted.NoRequest.TheVariants as no_re
 use Rattle.er_slips.specs.{declared.request.Next.Next, declared.request.Next.TheVariants.{Get, Body}}
 use Rattle.er_slips.specs.declared.request.wanted.Fault.TheVariants.{BadRequest}
 use Rattle.er_slips.specs.{declared.serve.Served.Served, declared.serve.Served.TheVariants.{Answered, ReadFault, WriteFault}}
-use Rattle.er_slips.specs.{Request.{IsRequest, headed, headless, IsWholeRequest, next_of, asked_with, reported}}
+use Rattle.er_slips.specs.{Request.{IsRequest, headed, headless, IsWholeRequest, next_of, asked_with, report_request}}
 use Rattle.er_slips.specs.{inside.Telling.TellsRequest}
 use Rattle.er_slips.specs.declared.answer.Answer.{Answer}
 use Rattle.er_slips.specs.Answer.{AnswerValue, IsMessage, answer_value, fault_answer, refusal_answer, status_of}
-use Rattle.er_slips.specs.Whole.{IsAnswered, submitted, IsAnswerUnless503, question_of}
+use Rattle.er_slips.specs.Whole.{IsAnswered, submitted_command, IsAnswerUnless503, question_of}
 use Rattle.er_slips.specs.Serving.{AnswersRequest, IsServed, IsUnserved, Writes, EndsServing, IsWritten}
 
 -- a request moves no tables: it asks its session of the file
@@ -103,7 +103,8 @@ there : (round table n : ℕ) (rest : List ℕ) (asked : Request) → Ok asked �
 there round table n rest asked e = by (nat_lt (length rest) n) refl e
   where
     by : (short : Bool) → nat_lt (length rest) n ≡ short
-        → ◌≡◌ {A = Result Request Fault} (Ok asked) (if short then Err BadRequest else reported round table (slip_games (take n rest))) → n
+        → ◌≡◌ {A = Result Request Fault} (Ok asked)
+        (if short then Err BadRequest else report_request round table (slip_games (take n rest))) → n
         ≤ length rest
     by true is e = absurd (true≢false (ap is_ok e))
     by false is e = grind (arith, nat_tests)
@@ -112,7 +113,7 @@ module _ (old : DeskState) (session : Session) (new : DeskState) (input : List �
     (runs : IsFalse old.needs_reopen) where
   exact : (asked : Result Request Fault) → IsRequest input asked → IsAnswered old.event old.serial asked answer
       → IsAnswerUnless503 old.event old.serial input answer
-  exact asked is answered = inl (submitted asked, record { asked = asked; asks = is; answered = answered; command = refl })
+  exact asked is answered = inl (submitted_command asked, record { asked = asked; asks = is; answered = answered; command = refl })
 
   -- something is asked for by a whole request alone
   whole : (asked : Request) → IsRequest input (Ok asked) → (next : Next) × IsWholeRequest input next
@@ -162,12 +163,12 @@ module _ (old : DeskState) (session : Session) (new : DeskState) (input : List �
 
   module _ (round table : ℕ) (score : Games) (of : IsRequest input (Ok (Report round table score))) where
     -- a score is never late
-    in_time : (reply : Reply) → IsDue old.version old.event old.serial (Hand round table score) reply
-        → IsDue 2 old.event old.serial (Hand round table score) reply
+    in_time : (reply : Reply) → IsDue old.version old.event old.serial (ReportResult round table score) reply
+        → IsDue 2 old.event old.serial (ReportResult round table score) reply
     in_time reply (Ok next, taken, same) = (Ok next, taken, same)
     in_time reply (Err why, refused, same) = (Err why, refused, same)
 
-    reply_by : (told : Told) (reply : Reply) → IsLawful old.version old.event old.serial (Hand round table score) reply
+    reply_by : (told : Told) (reply : Reply) → IsLawfulReply old.version old.event old.serial (ReportResult round table score) reply
         → told ≡ reply_told reply → IsMessage told answer → IsAnswerUnless503 old.event old.serial input answer
     reply_by told reply (inl due) is message =
         due_told (Report round table score) of told (reply, in_time reply due, is) message

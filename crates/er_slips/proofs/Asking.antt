@@ -12,7 +12,8 @@ use Rattle.er_slips.specs.{declared.request.head.Head.Head, declared.request.hea
 use Rattle.er_slips.specs.{declared.request.wanted.Fault.Fault, declared.request.Next.Next, declared.request.Next.TheVariants.{Get, Body}}
 use Rattle.er_slips.specs.{declared.request.wanted.Request.Request, declared.request.wanted.NoRequest.NoRequest}
 use Rattle.er_slips.specs.{declared.request.wanted.Fault.TheVariants.BadRequest, declared.request.head.TheConstants.MAX_HEAD}
-use Rattle.er_slips.specs.{Head.{IsHead}, Request.{path_of, next_of, asked_with, asked_of, reported, IsRequest, headed, IsWholeRequest}}
+use Rattle.er_slips.specs.Head.{IsHead}
+use Rattle.er_slips.specs.Request.{path_of, next_of, asked_with, asked_of, report_request, IsRequest, headed, IsWholeRequest}
 use Rattle.er_slips.specs.inside.{Scan.{IfFound, ShowsHead}, Telling.{IsDueUnlessMemory, TellsRequest}}
 use Rattle.er_slips.specs.declared.request.wanted.NoRequest.TheVariants as no_request
 
@@ -93,7 +94,7 @@ module _ (input after : Option (List ℕ)) (bytes : List ℕ) (headers : List He
   behind xs h1 front c = grind (arith, common_steps)
 
   long-enough : (round table n : ℕ) (rest : List ℕ) → n ≤ length rest
-      → asked_with (Ok (Body round table n)) rest ≡ reported round table (slip_games (take n rest))
+      → asked_with (Ok (Body round table n)) rest ≡ report_request round table (slip_games (take n rest))
   long-enough round table n rest le = grind (arith, nat_tests)
 
   too-short : (round table n : ℕ) (rest : List ℕ) → length rest < n → asked_with (Ok (Body round table n)) rest ≡ Err BadRequest
@@ -105,9 +106,10 @@ module _ (input after : Option (List ℕ)) (bytes : List ℕ) (headers : List He
     size = length-take-le count buf fits
 
     pub asks-body : (end : ℕ) → spans.len + n ≡ end → end ≤ count → (r : Result Request NoRequest)
-        → IsDueUnlessMemory (reported round table (slip_games (slice_range buf spans.len end))) r → IfSome input (λ xs. TellsRequest xs r)
+        → IsDueUnlessMemory (report_request round table (slip_games (slice_range buf spans.len end))) r
+        → IfSome input (λ xs. TellsRequest xs r)
     asks-body end sum enough r t =
-        let due = reported round table (slip_games (slice_range buf spans.len end)) in
+        let due = report_request round table (slip_games (slice_range buf spans.len end)) in
         of-head (λ xs. TellsRequest xs r) (λ xs is head.
         let more = behind xs later (take count buf) (subst (λ i. Consumes i later (take count buf)) is came-on) in
         let left : end - spans.len ≡ n = omega arith in
@@ -122,7 +124,8 @@ module _ (input after : Option (List ℕ)) (bytes : List ℕ) (headers : List He
         let body : slice_range buf spans.len end ≡ take n (drop spans.len xs) =
         ap (λ k. take k (drop spans.len buf)) left ∙ sym part ∙ sym (take-append-le n (drop spans.len (take count buf)) more.0 long)
         ∙ ap (take n) (sym rest) in
-        let asked = ap (λ b. reported round table (slip_games b)) body ∙ sym (long-enough round table n (drop spans.len xs) whole) ∙ ap
+        let asked = ap (λ b. report_request round table (slip_games b)) body ∙ sym (long-enough round table n (drop spans.len xs) whole)
+        ∙ ap
         (λ (k : Result Next Fault). asked_with k (drop spans.len xs)) (sym is-next) in
         tells-asked xs due r t
         (round, table, n, record { head = shows.head; rest = drop spans.len xs; heads = head; passes = is-next; body = whole })

@@ -15,10 +15,11 @@ use Rattle.er_slips.specs.{declared.request.wanted.Request.TheVariants.Pairings,
 use Rattle.er_slips.specs.{declared.request.wanted.Fault.TheVariants.{NotFound, NotAllowed, TooLarge}}
 use Rattle.er_slips.specs.declared.request.wanted.Methods.TheVariants as methods
 use Rattle.er_slips.specs.{Request.{route_of, path_of, asked_of}}
-use Rattle.er_slips.specs.{Request.reported, Answer.{AnswerValue, fault_answer, refusal_answer, receipt_answer, slip_answer, text_answer}}
+use Rattle.er_slips.specs.Request.{report_request}
+use Rattle.er_slips.specs.Answer.{AnswerValue, fault_answer, refusal_answer, receipt_answer, slip_answer, text_answer}
 use Rattle.er_slips.specs.Answer.{message_of, status_of}
 use Rattle.er_answers.specs.Question.{slip_told, text_told}
-use Rattle.er_event.specs.declared.commands.Command.TheVariants.{Result as Hand}
+use Rattle.er_event.specs.declared.commands.Command.TheVariants.{Result as ReportResult}
 use Rattle.er_slips.specs.declared.request.routes.Route.TheVariants as route
 
 -- ---- each limit as the format has it, so that the code's constant can't move from it
@@ -172,7 +173,7 @@ unfolding httparse_on_literals digits
 signed_length rest = refl
 
 -- the body's 19 bytes, and no more, are read as a slip
-pub handed_in : asked_of (post (of_length (codes "19") ∷ [])) (codes "{\"a\":2,\"b\":1,\"d\":0} and more") ≡ reported 1 1
+pub handed_in : asked_of (post (of_length (codes "19") ∷ [])) (codes "{\"a\":2,\"b\":1,\"d\":0} and more") ≡ report_request 1 1
     (slip_games (codes "{\"a\":2,\"b\":1,\"d\":0}"))
 unfolding httparse_on_literals digits
 handed_in = refl
@@ -211,7 +212,7 @@ pub round_not_stored : message_of (text_told (pairings_text friday 9)) ≡ refus
 round_not_stored = refl
 
 abbrev hand : Games → Command
-hand score = Hand 1 1 score
+hand score = ReportResult 1 1 score
 
 pub due_receipt : IsDue 2 friday 6 (hand (games 2 1 0)) (Ok (record { serial = 7 }))
 due_receipt = (Ok (with_score friday 1 1 (games 2 1 0)), inl (refl, λ needs. needs), refl)

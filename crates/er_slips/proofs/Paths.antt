@@ -9,7 +9,8 @@ use Rattle.matchit.specs.{Seek.{segment, has_slash, longest_suffix, cuts}, Level
 use Rattle.matchit.proofs.SeekLemmas.{first-prefix, step-append, step-hit, step-miss, prepend-nil, seek-empty, param_step-empty}
 use Rattle.matchit.proofs.{SeekLemmas.{or_else-none, own-append}, ParamLemmas.{after_param-end, after_param-stop, after_param-kid}}
 use Rattle.matchit.proofs.RenameLemmas.{first-rename}
-use Rattle.er_slips.specs.Routes.{routes, before, after, is_empty, ends_in_number, after_round, in_rounds, after_root, pattern_of}
+use Rattle.er_slips.specs.Routes.{routes, before_slash, after_slash, is_empty, ends_in_number, after_round, in_rounds, after_root}
+use Rattle.er_slips.specs.Routes.{pattern_of}
 use Rattle.er_slips.specs.Routes.{round_pattern, table_pattern}
 use Rattle.er_slips.specs.declared.request.routes.Pattern.{Pattern}
 use Rattle.er_slips.specs.declared.request.routes.Pattern.TheVariants.{Standings, Round, Table}
@@ -32,7 +33,7 @@ keyed_if false one other = refl
 -- ---- a text's first part
 
 abbrev IsWhole : List ℕ → Type 0
-IsWhole p = (after p ≡ []) × (before p ≡ p) × (segment p ≡ p)
+IsWhole p = (after_slash p ≡ []) × (before_slash p ≡ p) × (segment p ≡ p)
 
 true_false : true ≡ false → ⊥
 true_false e = absurd (cc)
@@ -42,7 +43,7 @@ no_slash [] e = (refl, refl, refl)
 no_slash (b ∷ p) e = grind (arith, common_steps, no_slash p)
 
 abbrev IsCut : List ℕ → Type 0
-IsCut p = (segment p ≡ before p ++ 47 ∷ []) × (p ≡ before p ++ after p) × (is_empty (after p) ≡ false)
+IsCut p = (segment p ≡ before_slash p ++ 47 ∷ []) × (p ≡ before_slash p ++ after_slash p) × (is_empty (after_slash p) ≡ false)
 
 with_slash : (p : List ℕ) → has_slash p ≡ true → IsCut p
 with_slash [] e = absurd (true_false (sym e))
@@ -110,7 +111,7 @@ text_drop zero p h = h
 text_drop (suc k) [] h = h
 text_drop (suc k) (b ∷ p) h = text_drop k p h.1
 
-text_after : (p : List ℕ) → IsText p → IsText (after p)
+text_after : (p : List ℕ) → IsText p → IsText (after_slash p)
 text_after [] h = h
 text_after (b ∷ p) h = grind (arith, common_steps, text_after p h.1)
 
@@ -127,8 +128,8 @@ last_by false c p e =
 last_by true c p e =
     let cut = with_slash (c ∷ p) e in
     after_param-stop [] (Some 2) c p refl e
-    ∙ sym (ap (λ (b : Bool). keyed (cond (is_empty (before (c ∷ p)) || not b) None (Some Table))) cut.2
-    ∙ ap (λ (b : Bool). keyed (cond b None (Some Table))) (or_yes (is_empty (before (c ∷ p)))))
+    ∙ sym (ap (λ (b : Bool). keyed (cond (is_empty (before_slash (c ∷ p)) || not b) None (Some Table))) cut.2
+    ∙ ap (λ (b : Bool). keyed (cond b None (Some Table))) (or_yes (is_empty (before_slash (c ∷ p)))))
 
 last_number : (text : List ℕ) → IsText text → first (prepend (param_token ∷ []) (ends (Some 2))) text ≡ keyed (ends_in_number text)
 unfolding seek
@@ -166,25 +167,25 @@ longest_is seg = refl
 abbrev rounds_from : List ℕ → List ℕ → Option ℕ
 rounds_from b a = keyed (cond (is_empty b) None (cond (is_empty a) (Some Round) (after_round a)))
 
-kid_rest : (c : ℕ) (p : List ℕ) → IsCut (c ∷ p) → drop (length (segment (c ∷ p)) - 1) (c ∷ p) ≡ after (c ∷ p)
+kid_rest : (c : ℕ) (p : List ℕ) → IsCut (c ∷ p) → drop (length (segment (c ∷ p)) - 1) (c ∷ p) ≡ after_slash (c ∷ p)
 kid_rest c p cut = grind (arith, common_steps)
 
-longest_slash : (v : Bool) (c : ℕ) (p : List ℕ) → is_empty (before (c ∷ p)) ≡ v → IsCut (c ∷ p)
+longest_slash : (v : Bool) (c : ℕ) (p : List ℕ) → is_empty (before_slash (c ∷ p)) ≡ v → IsCut (c ∷ p)
     → longest_suffix (segment (c ∷ p)) (rows_of (tables ∷ [])) ≡ cond (not v) (47 ∷ []) []
 longest_slash v c p q cut = grind (arith, common_steps, drop_front, length-append, longest_is, nat_tests)
 
-rounds_slash : (v : Bool) (c : ℕ) (p : List ℕ) → is_empty (before (c ∷ p)) ≡ v → IsCut (c ∷ p)
-    → in_rounds (c ∷ p) ≡ cond v None (after_round (after (c ∷ p)))
+rounds_slash : (v : Bool) (c : ℕ) (p : List ℕ) → is_empty (before_slash (c ∷ p)) ≡ v → IsCut (c ∷ p)
+    → in_rounds (c ∷ p) ≡ cond v None (after_round (after_slash (c ∷ p)))
 rounds_slash v c p q cut = grind (arith, common_steps)
 
-slash_by : (v : Bool) (c : ℕ) (p : List ℕ) → is_empty (before (c ∷ p)) ≡ v → IsCut (c ∷ p) → has_slash (c ∷ p) ≡ true → IsText (c ∷ p)
+slash_by : (v : Bool) (c : ℕ) (p : List ℕ) → is_empty (before_slash (c ∷ p)) ≡ v → IsCut (c ∷ p) → has_slash (c ∷ p) ≡ true → IsText (c ∷ p)
     → after_param (rows_of (tables ∷ []) ++ ends (Some 1)) (c ∷ p) ≡ keyed (in_rounds (c ∷ p))
 unfolding tables
 slash_by true c p q cut e h =
     after_param-stop (tables ∷ []) (Some 1) c p (longest_slash true c p q cut) e ∙ sym (ap keyed (rounds_slash true c p q cut))
 slash_by false c p q cut e h =
     after_param-kid (tables ∷ []) 0 tables (Some 1) c p suffixed (lit< tt) (sym (longest_slash false c p q cut))
-    ∙ ap (first (rows tables)) (kid_rest c p cut) ∙ round_rest (after (c ∷ p)) (text_after (c ∷ p) h)
+    ∙ ap (first (rows tables)) (kid_rest c p cut) ∙ round_rest (after_slash (c ∷ p)) (text_after (c ∷ p) h)
     ∙ sym (ap keyed (rounds_slash false c p q cut))
 
 rounds_by : (v : Bool) (c : ℕ) (p : List ℕ) → has_slash (c ∷ p) ≡ v → IsText (c ∷ p)
@@ -193,7 +194,7 @@ rounds_by false c p e h =
     let whole = no_slash (c ∷ p) e in
     let longest = longest_is (segment (c ∷ p)) ∙ ap chosen whole.2 ∙ ap (λ (b : Bool). cond b (47 ∷ []) []) (cuts_none (c ∷ p) e) in
     after_param-end (tables ∷ []) (Some 1) c p suffixed longest e ∙ sym (ap₂ rounds_from whole.1 whole.0)
-rounds_by true c p e h = slash_by (is_empty (before (c ∷ p))) c p refl (with_slash (c ∷ p) e) e h
+rounds_by true c p e h = slash_by (is_empty (before_slash (c ∷ p))) c p refl (with_slash (c ∷ p) e) e h
 
 rounds_rest : (text : List ℕ) → IsText text → first (prepend (param_token ∷ []) after_number) text ≡ keyed (in_rounds text)
 unfolding tables seek

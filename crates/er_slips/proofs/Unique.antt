@@ -5,7 +5,7 @@ use Rattle.er_slips.specs.declared.request.wanted.{Request.Request, Fault.Fault}
 use Rattle.er_slips.specs.Request.{IsRequest, headed, headless}
 use Rattle.er_slips.specs.Request.{asked_of}
 use Rattle.er_event.specs.declared.commands.Command.{Command}
-use Rattle.er_event.specs.declared.commands.Command.TheVariants.{Result as Hand}
+use Rattle.er_event.specs.declared.commands.Command.TheVariants.{Result as ReportResult}
 use Rattle.er_event.specs.{declared.refusals.Refusal.Refusal, declared.scores.Games.Games, Event.EventValue, Sound.IsSoundButForSeeds}
 use Rattle.er_rank.specs.Standings.{HasOneStandings}
 use Rattle.er_rules.specs.Step.{Steps}
@@ -14,7 +14,7 @@ use Rattle.er_desk.specs.Reply.{Reply, IsDue, reply_to}
 use Rattle.er_slips.specs.declared.request.wanted.Request.TheVariants.{Standings, Pairings, Slip, Report}
 use Rattle.er_rank.specs.declared.rows.Row.{Row}
 use Rattle.er_answers.specs.{Due.IsDueAt, Question.reply_told, declared.question.{Told.Told, Told.TheVariants.Text}}
-use Rattle.er_slips.specs.{Answer.{AnswerValue, message_of}, Whole.{IsAnswered, OneAnswer, question_of, submitted}}
+use Rattle.er_slips.specs.{Answer.{AnswerValue, message_of}, Whole.{IsAnswered, OneAnswer, question_of, submitted_command}}
 
 pub one_asked : (input : List ℕ) (r q : Result Request Fault) → IsRequest input r → IsRequest input q → r ≡ q
 one_asked input r q (headed h rest is e) (headed k more also f) =
@@ -31,10 +31,11 @@ OneStep = (event : EventValue) (command : Command) (one other : Result EventValu
     → Steps event command one → Steps event command other → one ≡ other
 
 module _ (standings : HasOneStandings) (step : OneStep) (event : EventValue) (serial : ℕ) (sound : IsSoundButForSeeds event) where
-  one_reply : (round table : ℕ) (score : Games) (r q : Reply) → IsDue 2 event serial (Hand round table score) r
-      → IsDue 2 event serial (Hand round table score) q → r ≡ q
+  one_reply : (round table : ℕ) (score : Games) (r q : Reply) → IsDue 2 event serial (ReportResult round table score) r
+      → IsDue 2 event serial (ReportResult round table score) q → r ≡ q
   one_reply round table score r q (result, inl (steps, few), due) (other, inl (also, least), same) =
-      due ∙ ap (reply_to 2 event serial (Hand round table score)) (step event (Hand round table score) result other sound steps also)
+      due ∙ ap (reply_to 2 event serial (ReportResult round table score))
+      (step event (ReportResult round table score) result other sound steps also)
       ∙ sym same
   one_reply round table score r q (result, inr (over, needs), due) (other, answers, same) = absurd needs
   one_reply round table score r q (result, inl (steps, few), due) (other, inr (over, needs), same) = absurd needs
@@ -58,5 +59,5 @@ one_answer standings step event serial input one other submits also sound is it 
     let asked = one_asked input is.asked it.asked is.asks it.asks in (
       one_answered standings step event serial sound it.asked one other
           (subst (λ (r : Result Request Fault). IsAnswered event serial r one) asked is.answered) it.answered,
-      is.command ∙ ap submitted asked ∙ sym it.command,
+      is.command ∙ ap submitted_command asked ∙ sym it.command,
     )

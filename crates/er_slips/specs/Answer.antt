@@ -78,12 +78,12 @@ status_of (Store cause) = 503
 status_of NeedsReopen = 503
 status_of why = 409
 
-abbrev pub games_text : Games → List ℕ
-games_text g = codes "{\"a\":" ++ (decimal g.x ++ (codes ",\"b\":" ++ (decimal g.y ++ (codes ",\"d\":" ++ (decimal g.d ++ codes "}")))))
+abbrev pub games_object : Games → List ℕ
+games_object g = codes "{\"a\":" ++ (decimal g.x ++ (codes ",\"b\":" ++ (decimal g.y ++ (codes ",\"d\":" ++ (decimal g.d ++ codes "}")))))
 
 -- the stored score, where one is there already
 abbrev pub detail : Refusal → List ℕ
-detail (AlreadyReported score) = codes ",\"score\":" ++ games_text score
+detail (AlreadyReported score) = codes ",\"score\":" ++ games_object score
 detail _ = []
 
 abbrev pub refusal_body : Refusal → List ℕ

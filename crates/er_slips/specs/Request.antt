@@ -22,7 +22,7 @@ use Rattle.er_slips.specs.declared.request.wanted.Methods.TheVariants as methods
 use Rattle.er_slips.specs.declared.request.wanted.Fault.{Fault}
 use Rattle.er_slips.specs.declared.request.wanted.Fault.TheVariants.{BadRequest, NotFound, NotAllowed, TooLarge}
 use Rattle.er_slips.specs.Head.{IsHead, HasNoHead}
-use Rattle.er_slips.specs.Routes.{before, after, pattern_of}
+use Rattle.er_slips.specs.Routes.{before_slash, after_slash, pattern_of}
 
 -- ---- the route
 
@@ -48,10 +48,10 @@ table_with None table = None
 
 -- behind `/rounds/`: a round, or a round, `/tables/` and a table
 abbrev pub round_route : List ℕ → Option Route
-round_route rest = option_map route.Round (path_round (before rest))
+round_route rest = option_map route.Round (path_round (before_slash rest))
 
 abbrev pub table_route : List ℕ → Option Route
-table_route rest = table_with (path_round (before rest)) (path_number (drop 8 (after rest)))
+table_route rest = table_with (path_round (before_slash rest)) (path_number (drop 8 (after_slash rest)))
 
 abbrev pub route_by : List ℕ → Option Pattern → Option Route
 route_by path None = None
@@ -112,15 +112,15 @@ next_of head = next_on (route_of (path_of head.target)) head.method (map name_an
 
 -- ---- the body's part
 
-abbrev pub reported : ℕ → ℕ → Option Games → Result Request Fault
-reported round table None = Err BadRequest
-reported round table (Some games) = Ok (Report round table games)
+abbrev pub report_request : ℕ → ℕ → Option Games → Result Request Fault
+report_request round table None = Err BadRequest
+report_request round table (Some games) = Ok (Report round table games)
 
 abbrev pub asked_with : Result Next Fault → List ℕ → Result Request Fault
 asked_with (Err fault) rest = Err fault
 asked_with (Ok (Get asked)) rest = Ok asked
 asked_with (Ok (Body round table n)) rest =
-    if nat_lt (length rest) n then Err BadRequest else reported round table (slip_games (take n rest))
+    if nat_lt (length rest) n then Err BadRequest else report_request round table (slip_games (take n rest))
 
 -- what is asked for, or the first check that fails
 abbrev pub asked_of : RequestHead → List ℕ → Result Request Fault

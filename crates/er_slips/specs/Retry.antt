@@ -1,7 +1,7 @@
 -- A score that is handed in again.
 use Rattle.std.specs.Prelude.{◌≡◌, ◌⊎◌, ℕ, List, Option, Some, Ok}
 use Rattle.er_event.specs.declared.commands.Command.{Command}
-use Rattle.er_event.specs.declared.commands.Command.TheVariants.{Result as Hand}
+use Rattle.er_event.specs.declared.commands.Command.TheVariants.{Result as ReportResult}
 use Rattle.er_event.specs.declared.refusals.Refusal.TheVariants.{AlreadyReported, NotSwiss}
 use Rattle.er_event.specs.declared.scores.Games.{Games}
 use Rattle.er_event.specs.declared.matches.Match.{Match}
@@ -23,7 +23,7 @@ HasScore event round table score = (stored : Match) × (match_at event round tab
 -- the event is no longer in its Swiss rounds.
 abbrev pub Retries : Type 0
 Retries = (event next later : EventValue) (more : List Command) (round table : ℕ) (handed : Games)
-    → Steps event (Hand round table handed) (Ok next) → Folds next more later
+    → Steps event (ReportResult round table handed) (Ok next) → Folds next more later
     → (serial : ℕ) (input : List ℕ) (answer : AnswerValue) (submits : Option Command)
     → IsRequest input (Ok (Report round table handed)) → IsAnswer later serial input answer submits
     → ((stored : Games) × HasScore later round table stored × (answer ≡ refusal_answer (AlreadyReported stored)))

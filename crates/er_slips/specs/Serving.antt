@@ -6,7 +6,7 @@ use Rattle.sqlite.specs.State.{HasCleanDisk}
 use Rattle.er_event.specs.declared.refusals.Refusal.TheVariants.{Memory}
 use Rattle.er_desk.specs.declared.desk.Desk.{Desk}
 use Rattle.er_desk.specs.Asking as desk
-use Rattle.er_desk.specs.Desk.{DeskState, ShowsOwn, desk_state, state}
+use Rattle.er_desk.specs.Desk.{DeskState, HoldsOwnEvent, desk_state, state}
 use Rattle.er_desk.specs.Run.{Session, no_session}
 use Rattle.er_answers.specs.Answers.{AnswersDesk, session_at}
 use Rattle.er_answers.specs.declared.question.Told.{Told}
@@ -33,7 +33,8 @@ AnswersRequest Represented old (Ok request) answer session new =
 pub record AnswersAsked {S : Type 0} (g : Ghosts S) (old : Desk S g) (asked : Request) (answer : AnswerValue) (new : Desk S g)
     : Type 0 where
   pub session : Session
-  pub answers : AnswersRequest (HasCleanDisk (state g new) × ShowsOwn g old) (desk_state old) (Ok asked) answer session (desk_state new)
+  pub answers : AnswersRequest (HasCleanDisk (state g new) × HoldsOwnEvent g old) (desk_state old) (Ok asked) answer session
+      (desk_state new)
   pub asks : desk.Asks g old session new
 
 -- ---- one request
@@ -71,7 +72,8 @@ pub record Serves {S : Type 0} (g : Ghosts S) (input : Option (List ℕ)) (old n
     (served : Served)
     : Type 0 where
   pub session : Session
-  pub ends : EndsServing (HasCleanDisk (state g new) × ShowsOwn g old) input (desk_state old) session (desk_state new) before after served
+  pub ends : EndsServing (HasCleanDisk (state g new) × HoldsOwnEvent g old) input (desk_state old) session
+      (desk_state new) before after served
   pub asks : desk.Asks g old session new
 
 -- What was written where the desk runs and its tables represent its event: the answer to the input on that event and

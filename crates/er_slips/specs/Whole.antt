@@ -1,7 +1,7 @@
 -- The answer to a whole input on an event, and what is submitted for it.
 use Rattle.std.specs.Prelude.{◌≡◌, ◌⊎◌, ℕ, List, Option, Some, None, Result, Ok, Err}
 use Rattle.er_event.specs.declared.commands.Command.{Command}
-use Rattle.er_event.specs.declared.commands.Command.TheVariants.{Result as Hand}
+use Rattle.er_event.specs.declared.commands.Command.TheVariants.{Result as ReportResult}
 use Rattle.er_event.specs.Event.{EventValue}
 use Rattle.er_event.specs.Sound.{IsSoundButForSeeds}
 use Rattle.er_answers.specs.Due.{IsDueAt}
@@ -21,7 +21,7 @@ abbrev pub question_of : Request → Question
 question_of Standings = question.Standings
 question_of (Pairings round) = question.Show (view.Pairings round)
 question_of (Slip round table) = question.Slip round table
-question_of (Report round table score) = question.Submit (Hand round table score)
+question_of (Report round table score) = question.Submit (ReportResult round table score)
 
 -- The answer to what is asked, where memory and the store serve. A score is never late: its reply is the same in tables of
 -- either version.
@@ -35,16 +35,16 @@ abbrev pub command_of : Question → Option Command
 command_of (question.Submit command) = Some command
 command_of asked = None
 
-abbrev pub submitted : Result Request Fault → Option Command
-submitted (Err fault) = None
-submitted (Ok request) = command_of (question_of request)
+abbrev pub submitted_command : Result Request Fault → Option Command
+submitted_command (Err fault) = None
+submitted_command (Ok request) = command_of (question_of request)
 
 -- the answer to a whole input, and the command that is submitted for it
 pub record IsAnswer (event : EventValue) (serial : ℕ) (input : List ℕ) (answer : AnswerValue) (submits : Option Command) : Type 0 where
   pub asked : Result Request Fault
   pub asks : IsRequest input asked
   pub answered : IsAnswered event serial asked answer
-  pub command : submits ≡ submitted asked
+  pub command : submits ≡ submitted_command asked
 
 -- Of a sound event, a serial and an input there is one answer, and one command at most.
 abbrev pub OneAnswer : Type 0

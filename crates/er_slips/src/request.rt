@@ -2,7 +2,7 @@ ghost use Rattle.std.specs.Prelude.{◌≡◌, ℕ, List, All, map, length, IfOk
 ghost use Rattle.httparse.specs.Grammar.{RequestHead};
 ghost use Rattle.httparse.specs.Spans.{header_bytes, IsHeaderWithin, IsRequestAt, IsRequestWithin};
 ghost use Rattle.er_json.specs.Slip.{slip_games};
-ghost use Rattle.er_slips.specs.Request.{serves, next_of, reported};
+ghost use Rattle.er_slips.specs.Request.{serves, next_of, report_request};
 ghost use Rattle.er_slips.specs.inside.Telling.{IsShort, IsDueUnlessMemory, TellsRequest};
 
 mod fields;
@@ -88,7 +88,7 @@ fn next_of(
 }
 
 fn report(alloc: Global, round: u8, table: u16, body: &[u8]) -> Result<Request, NoRequest>
-    ensures { IsDueUnlessMemory (reported round table (slip_games body.now)) result }
+    ensures { IsDueUnlessMemory (report_request round table (slip_games body.now)) result }
 {
     match read_slip(alloc, body) {
         Ok(score) => Ok(Request::Report {

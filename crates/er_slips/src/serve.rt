@@ -1,6 +1,6 @@
 ghost use Rattle.std.specs.Prelude.{◌≡◌, IfSome, IsFalse, MatchResult};
 ghost use Rattle.sqlite.specs.State.{HasCleanDisk};
-ghost use Rattle.er_desk.specs.Desk.{ShowsOwn, desk_state, state};
+ghost use Rattle.er_desk.specs.Desk.{HoldsOwnEvent, desk_state, state};
 ghost use Rattle.er_slips.specs.Answer.{IsMessage, answer_value, refusal_answer};
 ghost use Rattle.er_slips.specs.Serving.{AnswersAsked, Writes, Serves, IsWritten};
 
@@ -87,7 +87,7 @@ pub fn serve_one<S: Alter, R: Read, W: Write>(
     // Where the desk runs and its tables represent its event, what is written is the answer to the input, or a 503.
     ensures written { IfSome (R.remaining reader.old)
         (λ input. IsFalse (desk_state desk.old).needs_reopen
-        → HasCleanDisk (state S.Store desk.new) × ShowsOwn S.Store desk.old
+        → HasCleanDisk (state S.Store desk.new) × HoldsOwnEvent S.Store desk.old
         → IsWritten (desk_state desk.old) input (W.contents writer.old)
         (W.contents writer.new) result) }
 {

@@ -17,7 +17,7 @@ use Rattle.sqlite.specs.Effect.{IsDatabase}
 use Rattle.er_store.proofs.Made.{IsAnywhere, grown, grows_then, keeps_then, is_free, has_either}
 use Rattle.er_store.proofs.Named.{IsRead}
 use Rattle.er_store.specs.Beside.{KeepsFirst, HasTable, names_taken}
-use Rattle.er_store.specs.inside.Making.{Grows, GoesOn, MakesTable, IsEmptyAfter, MakesFive, IsFound}
+use Rattle.er_store.specs.inside.Making.{Grows, ContinuesTransaction, MakesTable, IsEmptyAfter, MakesFive, IsFound}
 use Rattle.er_store.specs.Tables.{players_of}
 
 -- ---- a table behind others is found
@@ -115,7 +115,7 @@ pub first_players : (version : ℕ) → version ≢ 2 → {old new : State} → 
 first_players version other {old} {new} =
     subst (λ b. MakesTable (λ tree. if b then player2 tree else player tree) old new) (sym (ne_eqb version 2 other))
 
-goes_then : {a b c : State} → GoesOn a b → GoesOn b c → GoesOn a c
+goes_then : {a b c : State} → ContinuesTransaction a b → ContinuesTransaction b c → ContinuesTransaction a c
 goes_then p q = record {
   was = p.was;
   shows = record {

@@ -12,7 +12,7 @@ use Rattle.er_store.proofs.Behind.{found_behind, read_behind, players_anywhere}
 use Rattle.er_store.proofs.Crash.{Settles, only, was_clean}
 use Rattle.er_store.proofs.Made.{IsAnywhere, grown}
 use Rattle.er_store.proofs.Named.{event_read}
-use Rattle.er_store.specs.Beside.{KeepsFirst, IsMade, MakesBeside, ShowsBeside, IsStoredBeside}
+use Rattle.er_store.specs.Beside.{KeepsFirst, IsMade, MakesBeside, HoldsBeside, IsStoredBeside}
 use Rattle.er_store.specs.inside.Making.{IsEmptyAfter, MakesFive, IsFound, IsReadyBeside}
 use Rattle.er_store.specs.Representing.{Either}
 
@@ -91,7 +91,7 @@ ready_beside {version} {e} {old} made put = record {
 
 module _ {version : ℕ} {e : EventValue} {old last end : State} (ready : IsReadyBeside version e old last) where
   -- once it is committed, the connection sees it, and while that is open, a crash leaves it
-  pub written_beside : Settles end → sqlite.Shows last end last.now last.now false → ShowsBeside version e old.now end
+  pub written_beside : Settles end → sqlite.Shows last end last.now last.now false → HoldsBeside version e old.now end
   written_beside settles done =
       let sound = subst IsDatabase (sym done.now_is) ready.sound in
       let makes = subst (MakesBeside version e old.now) (sym done.now_is) ready.makes in
@@ -115,9 +115,9 @@ module _ {version : ℕ} {e : EventValue} {old last end : State} (ready : IsRead
   ]
 
 -- and what only read changed nothing
-pub shown_beside : {version : ℕ} {e : EventValue} {old mid : Database} {s : State} → mid ≡ old → ShowsBeside version e mid s
-    → ShowsBeside version e old s
-shown_beside {version} {e} {s = s} = subst (λ d. ShowsBeside version e d s)
+pub shown_beside : {version : ℕ} {e : EventValue} {old mid : Database} {s : State} → mid ≡ old → HoldsBeside version e mid s
+    → HoldsBeside version e old s
+shown_beside {version} {e} {s = s} = subst (λ d. HoldsBeside version e d s)
 
 pub stored_beside : {version : ℕ} {e : EventValue} {old mid : Database} {trees : Trees} → mid ≡ old → IsStoredBeside version e mid trees
     → IsStoredBeside version e old trees

@@ -1,6 +1,6 @@
 -- What a crash, or a step within a transaction, leaves of a change.
 use Rattle.er_store.proofs.Prelude.{common_steps, refl, ◌≡◌, ◌⊎◌, inl, inr, ℕ, true, false, IsTrue, sym, ◌∙◌, arith, Trees, State}
-use Rattle.er_store.proofs.Prelude.{HasCleanDisk, Survives, survives_then, EventValue, IsStoredIn, Shows, IsReady, List, Result}
+use Rattle.er_store.proofs.Prelude.{HasCleanDisk, Survives, survives_then, EventValue, IsStoredIn, RepresentsNow, IsReady, List, Result}
 use Rattle.er_store.proofs.Prelude.{Err}
 use Rattle.er_store.proofs.Prelude.{true≢false, Row, Error, Held, state, Ghosts, KeepsTables, Stays}
 use Rattle.sqlite.specs.{State.{KeepsCommit, IsRolledBack, ExecutesInside}, Steps.FailsToCommit}
@@ -19,7 +19,7 @@ was_clean s clean = let rises = s.clean in omega arith
 pub survives_self : (s : State) → Survives s s (λ _. ⊥)
 survives_self s = grind (arith, common_steps)
 
-pub shows_leaves_in : (v : ℕ) (s : State) (e : EventValue) (serial : ℕ) → Settles s → Shows v s e serial → (trees : Trees)
+pub shows_leaves_in : (v : ℕ) (s : State) (e : EventValue) (serial : ℕ) → Settles s → RepresentsNow v s e serial → (trees : Trees)
     → s.may_leave trees → IsStoredIn v e serial trees
 shows_leaves_in v s e serial settles shows trees may = grind (arith, common_steps)
 
@@ -29,7 +29,7 @@ only (inr none) = absurd none
 
 module _ {v : ℕ} {last end : State} {e : EventValue} {s : ℕ} (ready : IsReady v last e s) where
   -- once it is committed, the connection sees it
-  pub written : sqlite.Shows last end last.now last.now false → Shows v end e s
+  pub written : sqlite.Shows last end last.now last.now false → RepresentsNow v end e s
   written done = grind (arith, common_steps)
 
   -- a crash leaves what it could before, or the event
@@ -42,7 +42,7 @@ pub survives_both : {a b c : State} → Survives a b (λ _. ⊥) → Survives b 
 survives_both {a} {b} {c} = survives_then a b c (λ _. ⊥) (λ _. ⊥) (λ _. ⊥) (λ _ db none. none) (λ _ db none. none)
 
 -- where nothing was committed, a crash leaves the event before the change
-pub leaves_old : (v : ℕ) (old end : State) (e : EventValue) (s : ℕ) → Settles old → Shows v old e s
+pub leaves_old : (v : ℕ) (old end : State) (e : EventValue) (s : ℕ) → Settles old → RepresentsNow v old e s
     → Survives (record old { in_transaction = true }) end (λ _. ⊥) → HasCleanDisk end → (trees : Trees) → end.may_leave trees
     → IsStoredIn v e s trees
 leaves_old v old end e s settles was quiet clean trees may =

@@ -5,7 +5,8 @@ use Rattle.er_store.proofs.Prelude.{true≢false, IsTrue, refl, sym, ap, subst, 
 use Rattle.er_store.proofs.Prelude.{value_cmp-Int, Term, eval_all, Table, Schema, Update, next_rowid, rowid, without_rowid, put_row, State}
 use Rattle.er_store.proofs.Prelude.{one_permutation, Value, Query, Index, View, EventTable, Phase, PairingRow, BracketRow, EventValue}
 use Rattle.er_store.proofs.Prelude.{with_phase, flag, event_row, TallyRow, event, player, pairing, bracket, tally, insert_event}
-use Rattle.er_store.proofs.Prelude.{insert_player, insert_pairing, insert_slot, insert_tally, set_serial, set_phase, number, event_columns}
+use Rattle.er_store.proofs.Prelude.{insert_player, insert_pairing, insert_slot, insert_tally, set_serial, set_phase, number_value}
+use Rattle.er_store.proofs.Prelude.{event_columns}
 use Rattle.er_store.proofs.Prelude.{pairing_columns, bracket_columns, tally_columns, event_places, stored_event, stored_player}
 use Rattle.er_store.proofs.Prelude.{stored_pairing, stored_slot, stored_tally, at_places, HasTables, HasTablesAt, RepresentsWith, Some}
 use Rattle.er_store.proofs.Prelude.{Layout, Old, version_of, CanRead, Puts, Ran}
@@ -88,7 +89,7 @@ inside_ok false a e never = absurd (ok_is_no_err a e (never refl))
 -- ---- the rows that are put in
 
 pub puts_player : (num : ℕ) (name : List ℕ) (dropped : Bool) {at tree : ℕ} {old new : State} → IsFound old.now.schema at (player tree)
-    → Ran insert_player (number num ∷ Text name ∷ Int (flag dropped) ∷ []) old new
+    → Ran insert_player (number_value num ∷ Text name ∷ Int (flag dropped) ∷ []) old new
     → Puts tree (stored_player num name dropped) old new
 puts_player num name dropped {at} {tree} there =
     puts_one (player tree) (stored_player num name dropped) (player_means at tree there) there.is refl (simp (cast_int, cast_null))
@@ -100,7 +101,8 @@ second_at New is has = ap (λ ts. slice_get ts 1) has.are
 second_at Moved is has = ap (λ ts. slice_get ts 5) has.are
 
 pub puts_player2 : (num : ℕ) (name : List ℕ) (dropped : Bool) (joined : ℕ) (l : Layout) → version_of l ≡ 2 → {old new : State}
-    → HasTablesAt l old.now.schema → Ran insert_player2 (number num ∷ Text name ∷ Int (flag dropped) ∷ number joined ∷ []) old new
+    → HasTablesAt l old.now.schema
+    → Ran insert_player2 (number_value num ∷ Text name ∷ Int (flag dropped) ∷ number_value joined ∷ []) old new
     → Puts (players_tree l) (stored_player2 num name dropped joined) old new
 puts_player2 num name dropped joined l is has =
     puts_one (player2 (players_tree l)) (stored_player2 num name dropped joined) (second_meant l is has).player (second_at l is has) refl
@@ -108,7 +110,8 @@ puts_player2 num name dropped joined l is has =
 
 abbrev pub event_parameters : ℕ → EventValue → ℕ → Row
 event_parameters version e serial =
-    number version ∷ number serial ∷ Text e.name ∷ number e.rounds ∷ number e.cut ∷ number (phase_code e.phase) ∷ []
+    number_value version ∷ number_value serial ∷ Text e.name ∷ number_value e.rounds ∷ number_value e.cut
+    ∷ number_value (phase_code e.phase) ∷ []
 
 pub puts_event : (version : ℕ) (e : EventValue) (serial : ℕ) {at tree : ℕ} {old new : State} → IsFound old.now.schema at (event tree)
     → Ran insert_event (event_parameters version e serial) old new → Puts tree (stored_event version e serial) old new
@@ -160,7 +163,7 @@ pub event_replaced : (l : Layout) (terms : List Term) (x : Value) (was now : Row
     → HasTablesAt l old.now.schema → IsPermutation (map (at_places event_places) (old.now.trees event_tree)) (was ∷ [])
     → Means sql (Update 0 (record { lets = []; body = event_query terms })) old.now.schema
     → ((r : Row) → at_places event_places r ≡ was
-    → (eval_all terms ((x ∷ []) ∷ r ∷ []) ≡ number 1 ∷ now) × (rowid r ≡ Int (pos 1)))
+    → (eval_all terms ((x ∷ []) ∷ r ∷ []) ≡ number_value 1 ∷ now) × (rowid r ≡ Int (pos 1)))
     → cast_row (event event_tree) now ≡ now → Ran sql (x ∷ []) old new → ReplacesEvent now old new
 event_replaced l terms x was now {old = old} has shown means shows cast ran =
     let it = one_of (at_places event_places) (old.now.trees event_tree) was (one_permutation _ _ (IsPermutation-sym _ _ shown)) in
@@ -176,7 +179,7 @@ sets_event : (terms : List Term) (v : Value) (phase : Phase) (t : ℕ) → t ≤
     → {sql : List ℕ} {l : Layout} {old new : State} {e : EventValue} {s : ℕ} {kept : List TallyRow} → RepresentsWith l old.now e s kept
     → Means sql (Update 0 (record { lets = []; body = event_query terms })) old.now.schema
     → ((r : Row) → at_places event_places r ≡ event_columns (event_row (version_of l) e s)
-    → (eval_all terms ((v ∷ []) ∷ r ∷ []) ≡ number 1 ∷ stored_event (version_of l) (with_phase e phase) t) × (rowid r ≡ Int (pos 1)))
+    → (eval_all terms ((v ∷ []) ∷ r ∷ []) ≡ number_value 1 ∷ stored_event (version_of l) (with_phase e phase) t) × (rowid r ≡ Int (pos 1)))
     → Ran sql (v ∷ []) old new → BringsToWith l old new (with_phase e phase) t kept
 sets_event terms v phase t low {l = l} {e = e} {s} represents means shows ran =
     let set = event_replaced l terms v (event_columns (event_row (version_of l) e s)) (stored_event (version_of l) (with_phase e phase) t)
@@ -184,13 +187,13 @@ sets_event terms v phase t low {l = l} {e = e} {s} represents means shows ran =
     row_set represents phase t low set.goes set.rows
 
 pub serial_set : (t : ℕ) → t ≤ 999999 → {l : Layout} {old new : State} {e : EventValue} {s : ℕ} {kept : List TallyRow}
-    → RepresentsWith l old.now e s kept → Ran set_serial (number t ∷ []) old new → BringsToWith l old new e t kept
+    → RepresentsWith l old.now e s kept → Ran set_serial (number_value t ∷ []) old new → BringsToWith l old new e t kept
 serial_set t low {e = e} {s} represents =
-    sets_event serial_terms (number t) e.phase t low represents (meant represents.has.tables).serial (λ r h. (cc, cc))
+    sets_event serial_terms (number_value t) e.phase t low represents (meant represents.has.tables).serial (λ r h. (cc, cc))
 
 pub phase_set : (phase : Phase) {l : Layout} {old new : State} {e : EventValue} {s : ℕ} {kept : List TallyRow}
     → RepresentsWith l old.now e s kept
-    → Ran set_phase (number (phase_code phase) ∷ []) old new → BringsToWith l old new (with_phase e phase) s kept
+    → Ran set_phase (number_value (phase_code phase) ∷ []) old new → BringsToWith l old new (with_phase e phase) s kept
 phase_set phase {e = e} {s} represents =
-    sets_event phase_terms (number (phase_code phase)) phase s represents.low represents (meant represents.has.tables).phase
+    sets_event phase_terms (number_value (phase_code phase)) phase s represents.low represents (meant represents.has.tables).phase
     (λ r h. (cc, cc))

@@ -3,7 +3,8 @@ use Rattle.er_store.proofs.Prelude.{Match, Round, bracket_rows_from, pairing_row
 use Rattle.er_store.proofs.Prelude.{Bool, refl, subst, append-nil, ap₂, false, sym, length, map, ℕ, ap, ◌≡◌, ◌∷◌, ◌+◌, [], ◌∙◌, ◌<◌, ◌++◌}
 use Rattle.er_store.proofs.Prelude.{all-append, common_steps, column, Row, Value, IsAscending, map-append, IsPermutation-sym}
 use Rattle.er_store.proofs.Prelude.{IsPermutation-trans, nat_tests, Less, true, pos, filter, Equal, cond, range_with_len, AllByRecursion}
-use Rattle.er_store.proofs.Prelude.{IsPermutation, ordering_then, by_first, Lists, by_first_two, number, Player, numbers, value_cmp_total}
+use Rattle.er_store.proofs.Prelude.{IsPermutation, ordering_then, by_first, Lists, by_first_two, number_value, Player, numbers}
+use Rattle.er_store.proofs.Prelude.{value_cmp_total}
 use Rattle.er_store.proofs.Prelude.{value_cmp-Int, value_cmp}
 use Rattle.std.proofs.{Common.append_assoc, lemmas.Cmp.{on_total, then_total}}
 use Rattle.sqlite_keyed.proofs.{SortLemmas.sorted_unique, ListLemmas.ascending-append}
@@ -58,10 +59,10 @@ newest_more row matches all are ls old new m more =
 abbrev pub IsBelow : Row → Row → Type 0
 IsBelow a b = by_first_two a b ≡ Less
 
-lower : (m n : ℕ) (v w : Value) → v ≡ number m → w ≡ number n → m < n → value_cmp v w ≡ Less
+lower : (m n : ℕ) (v w : Value) → v ≡ number_value m → w ≡ number_value n → m < n → value_cmp v w ≡ Less
 lower m n v w at bt less = ap₂ value_cmp at bt ∙ (value_cmp-Int (pos m) (pos n) ∙ grind (arith, nat_tests))
 
-level : (k : ℕ) (v w : Value) → v ≡ number k → w ≡ number k → value_cmp v w ≡ Equal
+level : (k : ℕ) (v w : Value) → v ≡ number_value k → w ≡ number_value k → value_cmp v w ≡ Equal
 level k v w at bt = ap₂ value_cmp at bt ∙ (value_cmp-Int (pos k) (pos k) ∙ grind (arith, nat_tests))
 
 -- ---- what is listed
@@ -81,8 +82,8 @@ listed_by_two shown listed all up same h =
 
 -- ---- rows that the players' numbers lead
 
-module _ (row : Player → Row) (led : (p : Player) → column (row p) 0 ≡ number p.no) where
-  below_numbered : (a : Row) (m n : ℕ) (ps : List Player) → column a 0 ≡ number m → m < n → numbers ps ≡ range_with_len n (length ps)
+module _ (row : Player → Row) (led : (p : Player) → column (row p) 0 ≡ number_value p.no) where
+  below_numbered : (a : Row) (m n : ℕ) (ps : List Player) → column a 0 ≡ number_value m → m < n → numbers ps ≡ range_with_len n (length ps)
       → AllByRecursion (λ b. by_first a b ≡ Less) (map row ps)
   below_numbered a m n [] at low all = tt
   below_numbered a m n (q ∷ ps) at low all =
@@ -99,7 +100,7 @@ module _ (row : Player → Row) (led : (p : Player) → column (row p) 0 ≡ num
 -- ---- rows of matches, that the number of the round or stage leads
 
 module _ {X : Type 0} (columns : X → Row) (row : ℕ → ℕ × Match → X)
-    (first : (k : ℕ) (n : ℕ × Match) → column (columns (row k n)) 0 ≡ number k) where
+    (first : (k : ℕ) (n : ℕ × Match) → column (columns (row k n)) 0 ≡ number_value k) where
   abbrev Rise : List X → Type 0
   Rise xs = IsAscending IsBelow (map columns xs)
 
@@ -107,11 +108,12 @@ module _ {X : Type 0} (columns : X → Row) (row : ℕ → ℕ × Match → X)
   Below a xs = AllByRecursion (IsBelow a) (map columns xs)
 
   -- those that pass a test are told apart by their numbers
-  module _ (k : ℕ) (test : ℕ × Match → Bool) (second : (n : ℕ × Match) → test n ≡ true → column (columns (row k n)) 1 ≡ number n.0) where
+  module _ (k : ℕ) (test : ℕ × Match → Bool)
+      (second : (n : ℕ × Match) → test n ≡ true → column (columns (row k n)) 1 ≡ number_value n.0) where
     abbrev tested : ℕ → List Match → List (ℕ × Match)
     tested j ms = filter test (numbered_from j ms)
 
-    pub below_tested : (i j : ℕ) (a : Row) (ms : List Match) → column a 0 ≡ number k → column a 1 ≡ number i → i < j
+    pub below_tested : (i j : ℕ) (a : Row) (ms : List Match) → column a 0 ≡ number_value k → column a 1 ≡ number_value i → i < j
         → Below a (map (row k) (tested j ms))
     below_tested i j a [] at ai less = tt
     below_tested i j a (m ∷ ms) at ai less = by_test (test (j, m)) refl (below_tested i (j + 1) a ms at ai (omega arith))
@@ -139,14 +141,14 @@ module _ {X : Type 0} (columns : X → Row) (row : ℕ → ℕ × Match → X)
     abbrev rows : ℕ → L → List X
     rows k l = map (row k) (numbered l)
 
-    below_all : (i k : ℕ) (a : Row) (ns : List (ℕ × Match)) → column a 0 ≡ number i → i < k → Below a (map (row k) ns)
+    below_all : (i k : ℕ) (a : Row) (ns : List (ℕ × Match)) → column a 0 ≡ number_value i → i < k → Below a (map (row k) ns)
     below_all i k a [] at less = tt
     below_all i k a (n ∷ ns) at less =
         let below : IsBelow a (columns (row k n)) =
         ap (λ o. ordering_then o (value_cmp (column a 1) (column (columns (row k n)) 1))) (lower i k _ _ at (first k n) less) in
         (below, below_all i k a ns at less)
 
-    below_from : (i k : ℕ) (a : Row) (ls : List L) → column a 0 ≡ number i → i < k → Below a (rows_from rows k ls)
+    below_from : (i k : ℕ) (a : Row) (ls : List L) → column a 0 ≡ number_value i → i < k → Below a (rows_from rows k ls)
     below_from i k a [] at less = tt
     below_from i k a (l ∷ ls) at less =
         grind (arith, common_steps, all-append, below_all, map-append, rows_from, below_from i (k + 1) a ls at (omega arith))

@@ -1,6 +1,7 @@
 -- What the join of a slip reads of tables that represent an event.
 use Rattle.er_store.proofs.Prelude.{pairing_tree, Layout, Old, New, Moved, players_tree, player_shown}
-use Rattle.er_store.proofs.Prelude.{column, is_lawful_name, is_bye, is_at, number, ◌≡◌, Bool, true, false, ◌&&◌, cond, if◌then◌else◌, List}
+use Rattle.er_store.proofs.Prelude.{column, is_lawful_name, is_bye, is_at, number_value, ◌≡◌, Bool, true, false, ◌&&◌, cond, if◌then◌else◌}
+use Rattle.er_store.proofs.Prelude.{List}
 use Rattle.er_store.proofs.Prelude.{[], ◌∷◌, ◌++◌, map, filter, flat_map, refl, ap, ap₂, subst, ◌∙◌, arith, list_all, IsPermutation, Binary}
 use Rattle.er_store.proofs.Prelude.{Value, Row, is_true, Env, eval_all, holds, IsAnswer, or_nulls, overlay, Trees, Compare, Eq, binary}
 use Rattle.er_store.proofs.Prelude.{Player, common_steps, ◌≢◌, ◌⊎◌, inl, inr, ℕ, suc, ◌==◌, ◌<◌, ◌≤◌, min, max, nat_lt}
@@ -10,8 +11,9 @@ use Rattle.er_store.proofs.Prelude.{All-from_recursion, All-weaker, recursion_fr
 use Rattle.er_store.proofs.Prelude.{IsPermutation-filter, PairingTable, PlayerTable, Match, Round, Games, SlipRow, EventValue, seats}
 use Rattle.er_store.proofs.Prelude.{match_at, pairing_row, pairing_rows, bye_score, slip_of, numbers, names, IsRound, IsSoundButForSeeds}
 use Rattle.er_store.proofs.Prelude.{NamedPairing, pairing_columns, named_columns, at_places, pairing_places}
-use Rattle.er_store.proofs.Prelude.{RepresentsAt, Side, number_in, name_in, match_of_slip, named_pairing, named_pairings, IsPlayer}
-use Rattle.er_store.proofs.Prelude.{IsLawful, Refusal}
+use Rattle.er_store.proofs.Prelude.{RepresentsAt, Side, number_of_side, name_of_side, match_of_slip, named_pairing, named_pairings}
+use Rattle.er_store.proofs.Prelude.{IsPlayer}
+use Rattle.er_store.proofs.Prelude.{IsLawfulSlip, Refusal}
 use Rattle.std.proofs.{lemmas.List.Sorted.length_permutation, Common.AllPairs, lemmas.List.Elements.All-from_get_or}
 use Rattle.std.specs.Option.{ok_or}
 use Rattle.er_event.specs.{Match.{is_known, is_lawful_match, is_lawful_score}, Score.is_swiss_score, Slip.{name_of, second_of, slip_row}}
@@ -67,7 +69,7 @@ module _ (test : Row → Bool) (lows : Row → List Row) (highs : Row → List R
 -- ---- the rows of the query
 
 -- those whose number is this value, or one of NULLs
-abbrev pub numbered_as : Value → List Row → List Row
+abbrev numbered_as : Value → List Row → List Row
 numbered_as n rows = or_nulls (filter (λ r. is_true (binary (Compare Eq Binary) (column r 0) n) && true) rows)
 
 abbrev pub asks : Row → Row → Bool
@@ -160,20 +162,20 @@ module _ (e : EventValue) (sound : IsSoundButForSeeds e) where
 
   -- one row has the number, or that of NULLs
   sits : (l : Layout) (db : Database) (s n : ℕ) → RepresentsAt l db e s → Known e n
-      → (row : Row) × (numbered_as (number n) (db.trees (players_tree l)) ≡ row ∷ [])
-      × (column row 2 ≡ text_or_null (name_in (second_of e n)))
+      → (row : Row) × (numbered_as (number_value n) (db.trees (players_tree l)) ≡ row ∷ [])
+      × (column row 2 ≡ text_or_null (name_of_side (second_of e n)))
   sits l db s n represents (inl none) =
       let rows = db.trees (players_tree l) in
       let out = picks_none e.players n (omega (arith, none)) sound.players.numbered in
       let all = none_picked (player_shown l) (picks n) rows (rows_of e.players) (represents.has.rows PlayerTable) out in
-      ([], ap or_nulls (picked l n rows ∙ all), ap (λ k. text_or_null (name_in (second_of e k))) (sym none))
+      ([], ap or_nulls (picked l n rows ∙ all), ap (λ k. text_or_null (name_of_side (second_of e k))) (sym none))
   sits l db s n represents (inr known) =
       let rows = db.trees (players_tree l) in
       let one = picks_one e.players n sound.players.numbered known in
       let it = one_picked (player_shown l) (picks n) rows (rows_of e.players) (row_of one.it) (represents.has.rows PlayerTable) one.alone in
       let name : column it.0 2 ≡ Text one.it.name = sym (named l it.0) ∙ ap (λ (r : Row). column r 1) it.2 in
       let own = ap (λ (o : Option Player). Text (name_found o)) (sym one.first) in
-      let named = ap (λ (o : Side). text_or_null (name_in o)) (sym (somebody n known)) in
+      let named = ap (λ (o : Side). text_or_null (name_of_side o)) (sym (somebody n known)) in
       (it.0, ap or_nulls (picked l n rows ∙ it.1), name ∙ (own ∙ named))
 
 -- ---- the matches of a sound event
@@ -241,8 +243,8 @@ row_same k t n at = grind (arith, common_steps)
 bye_at_none : (t : ℕ) (n : ℕ × Match) → is_at t n ≡ true → 1 ≤ n.0 → is_bye n.1 ≡ (t == 0)
 bye_at_none t n at low = grind (arith, nat_tests)
 
-number_second : (e : EventValue) (n : ℕ) → number_in (second_of e n) ≡ n
-number_second e n = cond_of number_in (n == 0) None (Some (n, name_of e n)) ∙ grind (arith, nat_tests)
+number_second : (e : EventValue) (n : ℕ) → number_of_side (second_of e n) ≡ n
+number_second e n = cond_of number_of_side (n == 0) None (Some (n, name_of e n)) ∙ grind (arith, nat_tests)
 
 same_match : (e : EventValue) (k t : ℕ) (m : Match) → match_of_slip (slip_row e k t m) ≡ m
 same_match e k t m = ap (λ b. (let it : Match = record { a = m.a; b = b; score = m.score } in it)) (number_second e m.b)
@@ -255,7 +257,7 @@ module _ (e : EventValue) (sound : IsSoundButForSeeds e) (k t : ℕ) (n : ℕ ×
   known_second : Known e n.1.b
   known_second = grind (arith, common_steps)
 
-  pub slip_lawful : IsLawful slip
+  pub slip_lawful : IsLawfulSlip slip
   slip_lawful = record {
     played = rw (same_match e k t n.1) (record { lawful = found.0.lawful; apart = found.0.apart; bye = bye_at_none t n found.1 found.2 });
     first = lawful_player e sound n.1.a found.0.first;
@@ -264,7 +266,7 @@ module _ (e : EventValue) (sound : IsSoundButForSeeds e) (k t : ℕ) (n : ℕ ×
 
   -- the two numbers with their names
   abbrev swapped : Bool
-  swapped = nat_lt (number_in (second_of e n.1.b)) n.1.a
+  swapped = nat_lt (number_of_side (second_of e n.1.b)) n.1.a
 
   known_low : Known e (min n.1.a n.1.b)
   known_low = of_min (Known e) n.1.a n.1.b (inr found.0.first) known_second
@@ -273,7 +275,7 @@ module _ (e : EventValue) (sound : IsSoundButForSeeds e) (k t : ℕ) (n : ℕ ×
   known_high = of_max (Known e) n.1.a n.1.b (inr found.0.first) known_second
 
   abbrev name_at : ℕ → Option (List ℕ)
-  name_at j = name_in (second_of e j)
+  name_at j = name_of_side (second_of e j)
 
   low_name : name_at (min n.1.a n.1.b) ≡ (named_pairing slip).lo_name
   low_name = grind (arith, common_steps)
@@ -286,7 +288,7 @@ module _ (e : EventValue) (sound : IsSoundButForSeeds e) (k t : ℕ) (n : ℕ ×
 
   slip_read : (l : Layout) (db : Database) (s : ℕ) (rows : List Row) → RepresentsAt l db e s
       → rows_at e k t ≡ pairing_columns (pairing_row k n) ∷ []
-      → IsAnswer (slip_query (players_tree l)) (overlay db.trees []) (number k ∷ number t ∷ []) rows
+      → IsAnswer (slip_query (players_tree l)) (overlay db.trees []) (number_value k ∷ number_value t ∷ []) rows
       → rows ≡ named_columns (named_pairing slip) ∷ []
   slip_read l db s rows represents alone a =
       let it = one_picked (at_places pairing_places) (picks_table k t) (db.trees pairing_tree) (map pairing_columns (pairing_rows e))
@@ -294,9 +296,9 @@ module _ (e : EventValue) (sound : IsSoundButForSeeds e) (k t : ℕ) (n : ℕ ×
       let p = it.0 in
       let low = sits e sound l db s (min n.1.a n.1.b) represents known_low in
       let high = sits e sound l db s (max n.1.a n.1.b) represents known_high in
-      let lo : column p 3 ≡ number (min n.1.a n.1.b) = ap (λ (r : Row). column r 2) it.2 in
-      let hi : column p 4 ≡ number (max n.1.a n.1.b) = ap (λ (r : Row). column r 3) it.2 in
-      let read = slip_one (players_tree l) db.trees (number k ∷ number t ∷ []) p low.0 high.0 rows it.1
+      let lo : column p 3 ≡ number_value (min n.1.a n.1.b) = ap (λ (r : Row). column r 2) it.2 in
+      let hi : column p 4 ≡ number_value (max n.1.a n.1.b) = ap (λ (r : Row). column r 3) it.2 in
+      let read = slip_one (players_tree l) db.trees (number_value k ∷ number_value t ∷ []) p low.0 high.0 rows it.1
       (ap (λ v. numbered_as v (db.trees (players_tree l))) lo ∙ low.1)
       (ap (λ v. numbered_as v (db.trees (players_tree l))) hi ∙ high.1) a in
       read ∙ ap (λ (r : Row). r ∷ []) (ap (λ (r : Row). r ++ column low.0 2 ∷ column high.0 2 ∷ []) it.2
@@ -309,7 +311,7 @@ module _ (e : EventValue) (sound : IsSoundButForSeeds e) (k t : ℕ) (n : ℕ ×
 
 -- what is read of it, and that its slip is lawful
 pub slip_exact : (l : Layout) (db : Database) (e : EventValue) (s k t : ℕ) (rows : List Row) → RepresentsAt l db e s → IsSoundButForSeeds e
-    → IsAnswer (slip_query (players_tree l)) (overlay db.trees []) (number k ∷ number t ∷ []) rows
+    → IsAnswer (slip_query (players_tree l)) (overlay db.trees []) (number_value k ∷ number_value t ∷ []) rows
     → rows ≡ map named_columns (named_pairings e k t)
 slip_exact l db e s k t rows represents sound a =
     by_case (numbered_at e k t) (table_alone e k t (all_bye_last e sound)) (numbered-match e k t)
@@ -318,14 +320,14 @@ slip_exact l db e s k t rows represents sound a =
     by_case : (o : Option (ℕ × Match)) → rows_at e k t ≡ map (λ n. pairing_columns (pairing_row k n)) (option_to_list o)
         → match_at e k t ≡ option_map (λ (n : ℕ × Match). n.1) o → IfSome o (Finds (IsMatch (numbers e.players)) (is_at t))
         → rows ≡ map named_columns (named_pairings e k t)
-    by_case None alone is found = rw is (slip_none (players_tree l) db.trees (number k ∷ number t ∷ []) rows
+    by_case None alone is found = rw is (slip_none (players_tree l) db.trees (number_value k ∷ number_value t ∷ []) rows
         (none_picked (at_places pairing_places) (picks_table k t)
         (db.trees pairing_tree) (map pairing_columns (pairing_rows e)) (represents.has.rows PairingTable) alone) a)
     by_case (Some n) alone is found = rw is (slip_read e sound k t n found l db s rows represents alone a)
 
-pub slips_lawful : (e : EventValue) (k t : ℕ) → IsSoundButForSeeds e → IfSome (slip_of e k t) IsLawful
+pub slips_lawful : (e : EventValue) (k t : ℕ) → IsSoundButForSeeds e → IfSome (slip_of e k t) IsLawfulSlip
 slips_lawful e k t sound = rw (numbered-match e k t) ((elim (numbered_at e k t) as (λ o. IfSome o
-    (Finds (IsMatch (numbers e.players)) (is_at t)) → IfSome (option_map (slip_row e k t) (option_map (λ n. n.1) o)) IsLawful) [
+    (Finds (IsMatch (numbers e.players)) (is_at t)) → IfSome (option_map (slip_row e k t) (option_map (λ n. n.1) o)) IsLawfulSlip) [
       | None ↦ λ found. tt
       | Some n ↦ λ found. slip_lawful e sound k t n found
     ]) (finds (IsMatch (numbers e.players)) t e k (all_matches e sound)))
@@ -357,7 +359,7 @@ few_slips (Some slip) rows is low = let len = ap length is in omega (arith, len,
 -- the slip of the row is that of the event
 pub slip_found : (e : EventValue) (k t : ℕ) (slip : SlipRow) (read : Option SlipRow) (fault : Refusal) (r : Result SlipRow Refusal)
     → r ≡ ok_or read fault → IsSoundButForSeeds e → slip_of e k t ≡ Some slip
-    → (IsLawful slip → slip.round ≡ k → slip.table ≡ t → read ≡ Some slip) → FindsSlipOrFails e k t r
+    → (IsLawfulSlip slip → slip.round ≡ k → slip.table ≡ t → read ≡ Some slip) → FindsSlipOrFails e k t r
 slip_found e k t slip read fault r answer sound is exact =
     let named = rw is at (slip_names e k t) in
     rw (answer, exact (rw is at (slips_lawful e k t sound)) named.0 named.1) is

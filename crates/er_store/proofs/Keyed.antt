@@ -7,7 +7,7 @@ use Rattle.er_store.proofs.Prelude.{nat_tests, Row, column, Match, Round, Pairin
 use Rattle.er_store.proofs.Prelude.{match_at, pairing_row, round_rows, pairing_rows, numbers, IsRound, IsSoundButForSeeds, pairing_columns}
 use Rattle.er_store.proofs.Prelude.{common_steps, not, ◌⊎◌, inl, inr, IsPermutation, IsPermutation-refl, IsPermutation-trans}
 use Rattle.er_store.proofs.Prelude.{IsPermutation-map, recursion_from_All, IsAscending, Database, PairingTable, table_of, pairing_rows_from}
-use Rattle.er_store.proofs.Prelude.{at_places, pairing_places, number, Layout, RepresentsAt, by_first_two, Lists, all_weaker}
+use Rattle.er_store.proofs.Prelude.{at_places, pairing_places, number_value, Layout, RepresentsAt, by_first_two, Lists, all_weaker}
 use Rattle.er_store.proofs.Prelude.{IsPermutation-filter_both}
 use Rattle.std.specs.Option.{option_and_then}
 use Rattle.std.proofs.lemmas.List.Sorted.{IsPermutation-append}
@@ -129,10 +129,10 @@ Rise rows = IsAscending IsBelow (map pairing_columns rows)
 abbrev is_seated : ℕ × Match → Bool
 is_seated n = not (is_bye n.1)
 
-table_is : (round : ℕ) (n : ℕ × Match) → is_seated n ≡ true → column (pairing_columns (pairing_row round n)) 1 ≡ number n.0
-table_is round n seated = ap number (let own : table_of n ≡ n.0 = grind (arith, nat_tests) in own)
+table_is : (round : ℕ) (n : ℕ × Match) → is_seated n ≡ true → column (pairing_columns (pairing_row round n)) 1 ≡ number_value n.0
+table_is round n seated = ap number_value (let own : table_of n ≡ n.0 = grind (arith, nat_tests) in own)
 
-bye_table : (round : ℕ) (n : ℕ × Match) → is_bye n.1 ≡ true → column (pairing_columns (pairing_row round n)) 1 ≡ number 0
+bye_table : (round : ℕ) (n : ℕ × Match) → is_bye n.1 ≡ true → column (pairing_columns (pairing_row round n)) 1 ≡ number_value 0
 bye_table round n alone = rw alone
 
 abbrev byes : ℕ → List Match → List (ℕ × Match)

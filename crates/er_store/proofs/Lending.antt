@@ -6,10 +6,10 @@ use Rattle.sqlite.specs.{State.{IsRolledBack, KeepsCommit, Survives}, Steps.Fail
 use Rattle.sqlite.specs.declared.transaction.Transaction.{Transaction}
 use Rattle.er_store.proofs.Crash.{stays_self, stays_then, survives_both, was_clean, dropped_keeps, uncommitted_keeps}
 use Rattle.er_store.proofs.LoadLemmas.{all_ok, all_err, unchanged_keeps, then_keeps}
-use Rattle.er_store.specs.inside.{Steps.Stays, Within.{shown, Lends}, Looking.{OnlyLooks, Transacts}}
+use Rattle.er_store.specs.inside.{Steps.Stays, Within.{tx_state, Lends}, Looking.{OnlyLooks, Transacts}}
 
 pub lends_self : {S : Type 0} (g : Ghosts S) (tx : Transaction S) → Lends g tx tx
-lends_self g tx = record { same_reference = refl; stays = stays_self (shown g tx) }
+lends_self g tx = record { same_reference = refl; stays = stays_self (tx_state g tx) }
 
 pub lends_then : {S : Type 0} {g : Ghosts S} {a b c : Transaction S} → Lends g a b → Lends g b c → Lends g a c
 lends_then p q = record { same_reference = q.same_reference ∙ p.same_reference; stays = stays_then p.stays q.stays }

@@ -17,6 +17,7 @@ mod Keyed
 mod SlipLemmas
 mod Joined
 mod Meetings
+mod Joining
 mod Selecting
 mod Crash
 mod Creates

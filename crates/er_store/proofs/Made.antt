@@ -22,7 +22,7 @@ use Rattle.sqlite.proofs.Callers.{statement_of}
 use Rattle.sqlite.specs.{Does.{sequence_text, lacks_sequence, Tally, MakesTable as Makes}, Rows.Gives}
 use Rattle.er_store.proofs.{Taken.{compiled_refused, never_ran}, Writing.{went, same_value}}
 use Rattle.er_store.specs.{Beside.KeepsFirst, inside.Making.{Grows, MakesTable}}
-use Rattle.er_store.specs.Tables.{event_text, player_text, player2_text, pairing_text, bracket_text, tally_text}
+use Rattle.er_store.specs.Tables.{create_event, create_player, create_player2, create_pairing, create_bracket, create_tally}
 
 -- ---- a name that is free
 
@@ -259,9 +259,9 @@ module _ {sql : List ℕ} {p : Parsed} {def : CreateTable} {table : ℕ → Tabl
   made : MakesTable table old new
   made = made_by _ refl
 
-pub event_beside : {old new : State} → Ran event_text [] old new → MakesTable event old new
+pub event_beside : {old new : State} → Ran create_event [] old new → MakesTable event old new
 unfolding everything digits
-event_beside = made {sql = event_text} {p = _} {def = _} {table = event}
+event_beside = made {sql = create_event} {p = _} {def = _} {table = event}
     (record {
       reads = refl;
       is = refl;
@@ -276,9 +276,9 @@ event_beside = made {sql = event_text} {p = _} {def = _} {table = event}
     })
     (λ tree. refl)
 
-pub player_beside : {old new : State} → Ran player_text [] old new → MakesTable player old new
+pub player_beside : {old new : State} → Ran create_player [] old new → MakesTable player old new
 unfolding everything digits
-player_beside = made {sql = player_text} {p = _} {def = _} {table = player}
+player_beside = made {sql = create_player} {p = _} {def = _} {table = player}
     (record {
       reads = refl;
       is = refl;
@@ -293,9 +293,9 @@ player_beside = made {sql = player_text} {p = _} {def = _} {table = player}
     })
     (λ tree. refl)
 
-pub player2_beside : {old new : State} → Ran player2_text [] old new → MakesTable player2 old new
+pub player2_beside : {old new : State} → Ran create_player2 [] old new → MakesTable player2 old new
 unfolding everything digits
-player2_beside = made {sql = player2_text} {p = _} {def = _} {table = player2}
+player2_beside = made {sql = create_player2} {p = _} {def = _} {table = player2}
     (record {
       reads = refl;
       is = refl;
@@ -310,9 +310,9 @@ player2_beside = made {sql = player2_text} {p = _} {def = _} {table = player2}
     })
     (λ tree. refl)
 
-pub pairing_beside : {old new : State} → Ran pairing_text [] old new → MakesTable pairing old new
+pub pairing_beside : {old new : State} → Ran create_pairing [] old new → MakesTable pairing old new
 unfolding everything digits
-pairing_beside = made {sql = pairing_text} {p = _} {def = _} {table = pairing}
+pairing_beside = made {sql = create_pairing} {p = _} {def = _} {table = pairing}
     (record {
       reads = refl;
       is = refl;
@@ -327,9 +327,9 @@ pairing_beside = made {sql = pairing_text} {p = _} {def = _} {table = pairing}
     })
     (λ tree. refl)
 
-pub bracket_beside : {old new : State} → Ran bracket_text [] old new → MakesTable bracket old new
+pub bracket_beside : {old new : State} → Ran create_bracket [] old new → MakesTable bracket old new
 unfolding everything digits
-bracket_beside = made {sql = bracket_text} {p = _} {def = _} {table = bracket}
+bracket_beside = made {sql = create_bracket} {p = _} {def = _} {table = bracket}
     (record {
       reads = refl;
       is = refl;
@@ -344,9 +344,9 @@ bracket_beside = made {sql = bracket_text} {p = _} {def = _} {table = bracket}
     })
     (λ tree. refl)
 
-pub tally_beside : {old new : State} → Ran tally_text [] old new → MakesTable tally old new
+pub tally_beside : {old new : State} → Ran create_tally [] old new → MakesTable tally old new
 unfolding everything digits
-tally_beside = made {sql = tally_text} {p = _} {def = _} {table = tally}
+tally_beside = made {sql = create_tally} {p = _} {def = _} {table = tally}
     (record {
       reads = refl;
       is = refl;

@@ -3,12 +3,12 @@ use Rattle.er_store.proofs.Prelude.{event_tree, player_tree, pairing_tree, brack
 use Rattle.er_store.proofs.Prelude.{set_serial, set_phase, set_dropped, set_score, set_slot_score, set_tally, map, ◌++◌, ◌≡◌, ℕ, refl, []}
 use Rattle.er_store.proofs.Prelude.{◌∷◌}
 use Rattle.er_store.proofs.Prelude.{List, pos, false, is_ok, sym, ◌∙◌, true≢false, Table, Schema, Term, col, Query, Command, Insert, Update}
-use Rattle.er_store.proofs.Prelude.{Values, Null, Int, Binary, Index, View, Compare, Eq, Gt, ToNumeric, IsPlain, command_of, with_ours}
-use Rattle.er_store.proofs.Prelude.{CanRead, table_query, SelectsWith, Selects, number, event_places, player_places, pairing_places}
+use Rattle.er_store.proofs.Prelude.{Values, Null, Int, Binary, Index, View, Compare, Eq, ToNumeric, IsPlain, command_of, with_ours}
+use Rattle.er_store.proofs.Prelude.{CanRead, table_query, SelectsWith, Selects, number_value, event_places, player_places, pairing_places}
 use Rattle.er_store.proofs.Prelude.{bracket_places, tally_places, no_schema, insert_pairing, insert_slot}
-use Rattle.er_store.proofs.Prelude.{insert_tally, read_event, read_pairings, read_bracket, read_tallies, read_meetings}
+use Rattle.er_store.proofs.Prelude.{insert_tally, read_event, read_pairings, read_bracket, read_tallies}
 use Rattle.er_store.proofs.Prelude.{understood, listing_schema, everything}
-use Rattle.er_store.proofs.Prelude.{insert_player2, set_dropped2, players_text, slip_text, player2_places}
+use Rattle.er_store.proofs.Prelude.{insert_player2, set_dropped2, read_players_of, read_slip_of, player2_places}
 use Rattle.std.proofs.Common.{lit≤}
 use Rattle.sqlite.specs.Command.TheVariants.{Delete}
 use Rattle.sqlite.specs.{Term.{lit, op1, op2}, Query.{Join, inner, left, end}}
@@ -92,25 +92,6 @@ slip_terms = col 1 1 ∷ col 1 2 ∷ col 1 3 ∷ col 1 4 ∷ col 1 5 ∷ col 1 6
 -- only the match of the round and the table that are given passes
 abbrev pub slip_query : ℕ → Query
 slip_query players = plain_query (slip_from players) score_tests slip_terms
-
--- the pairings, each with the totals of `lo`, if there are any, and of `hi`
-abbrev pub meeting_from : Join
-meeting_from =
-    inner pairing_tree (left tally_tree (equals (col 2 0) (col 1 3) ∷ []) (left tally_tree (equals (col 3 0) (col 1 4) ∷ []) end))
-
-abbrev pub meeting_terms : List Term
-meeting_terms =
-    col 1 1 ∷ col 1 2 ∷ col 1 6 ∷ col 2 0 ∷ col 2 2 ∷ col 2 3 ∷ col 2 4 ∷ col 2 5 ∷ col 3 0 ∷ col 3 2 ∷ col 3 3 ∷ col 3 4 ∷ col 3 5 ∷ []
-
--- no bye passes
-abbrev pub meeting_tests : List Term
-meeting_tests = op2 (Compare Gt Binary) (col 1 3) (lit (Int (pos 0))) ∷ []
-
--- by round and table
-abbrev pub meeting_query : Query
-meeting_query = record (plain_query meeting_from meeting_tests meeting_terms) {
-  order = map (λ place. (col 1 place, record { collation = Binary; descending = false })) (1 ∷ 2 ∷ []);
-}
 
 -- the text is this command of the schema
 pub record Means (sql : List ℕ) (command : Command) (schema : Schema) : Type 0 where
@@ -225,7 +206,7 @@ module _ (others : List Table) (indexes : List Index) (views : List View) where
   event_selected New = record { names = _; is = refl; plain = (refl, refl); unlisted = refl; whole = (lit≤ tt, refl); typed = refl }
   event_selected Moved = record { names = _; is = refl; plain = (refl, refl); unlisted = refl; whole = (lit≤ tt, refl); typed = refl }
 
-  pub players_selected : (l : Layout) → Selects (players_text (version_of l)) (table_query (players_tree l) (read_terms l) (0 ∷ []))
+  pub players_selected : (l : Layout) → Selects (read_players_of (version_of l)) (table_query (players_tree l) (read_terms l) (0 ∷ []))
       (full l)
   unfolding understood everything
   players_selected Old = record { names = _; is = refl; plain = (refl, refl); unlisted = refl; whole = (lit≤ tt, refl); typed = refl }
@@ -251,7 +232,7 @@ module _ (others : List Table) (indexes : List Index) (views : List View) where
   bracket_selected Moved = record { names = _; is = refl; plain = (refl, refl); unlisted = refl; whole = (lit≤ tt, refl); typed = refl }
 
   pub slip_selected : (round table : ℕ) (l : Layout)
-      → SelectsWith (number round ∷ number table ∷ []) (slip_text (version_of l)) (slip_query (players_tree l)) (full l)
+      → SelectsWith (number_value round ∷ number_value table ∷ []) (read_slip_of (version_of l)) (slip_query (players_tree l)) (full l)
   unfolding understood everything
   slip_selected round table Old =
       record { names = _; is = refl; plain = (refl, refl); unlisted = refl; whole = (lit≤ tt, refl); typed = refl }
@@ -259,12 +240,6 @@ module _ (others : List Table) (indexes : List Index) (views : List View) where
       record { names = _; is = refl; plain = (refl, refl); unlisted = refl; whole = (lit≤ tt, refl); typed = refl }
   slip_selected round table Moved =
       record { names = _; is = refl; plain = (refl, refl); unlisted = refl; whole = (lit≤ tt, refl); typed = refl }
-
-  pub meetings_selected : (l : Layout) → Selects read_meetings meeting_query (full l)
-  unfolding understood everything
-  meetings_selected Old = record { names = _; is = refl; plain = (refl, refl); unlisted = refl; whole = (lit≤ tt, refl); typed = refl }
-  meetings_selected New = record { names = _; is = refl; plain = (refl, refl); unlisted = refl; whole = (lit≤ tt, refl); typed = refl }
-  meetings_selected Moved = record { names = _; is = refl; plain = (refl, refl); unlisted = refl; whole = (lit≤ tt, refl); typed = refl }
 
   -- the table can be read
   pub readable : (l : Layout) → CanRead (full l)

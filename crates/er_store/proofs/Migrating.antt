@@ -2,7 +2,7 @@
 use Rattle.er_store.proofs.Prelude.{◌≡◌, ◌≢◌, ◌<◌, ◌≤◌, ℕ, ℤ, List, [], ◌∷◌, ◌++◌, map, true, refl, sym, ap, subst, ◌∙◌, pos, slice_get}
 use Rattle.er_store.proofs.Prelude.{length}
 use Rattle.er_store.proofs.Prelude.{All, All-from_recursion, AllByRecursion, IsPermutation-refl, IsPermutation-sym, length-map, map-append}
-use Rattle.er_store.proofs.Prelude.{Row, Int, column, number, Table, Schema, Database, State, EventTable, PlayerTable, PairingTable}
+use Rattle.er_store.proofs.Prelude.{Row, Int, column, number_value, Table, Schema, Database, State, EventTable, PlayerTable, PairingTable}
 use Rattle.er_store.proofs.Prelude.{BracketTable, TallyTable, Player, EventValue, event_row, player_row, player_columns, event_columns}
 use Rattle.er_store.proofs.Prelude.{player_shown, stored_event, stored_player2, player_tree, moved_tree, event_tree, player, Goes, Puts}
 use Rattle.er_store.proofs.Prelude.{Ran, Old, Moved}
@@ -11,7 +11,7 @@ use Rattle.std.proofs.{lemmas.List.Sorted.All-permutation, Math.ListN.get_or-map
 use Rattle.sqlite.specs.State as sqlite
 use Rattle.sqlite_schema.specs.declared.schema.Keys.{Keys}
 use Rattle.sqlite_rules.specs.Action.{works}
-use Rattle.er_store.specs.{Tables.{player2_text, clear_players, set_version}, inside.Moving.{IsMoving, IsMoved, MayMove, HasNumber}}
+use Rattle.er_store.specs.{Tables.{create_player2, clear_players, set_version}, inside.Moving.{IsMoving, IsMoved, MayMove, HasNumber}}
 use Rattle.er_store.proofs.{Clearing.clears, Creates.{makes, player2_moved}, Writing.{cast_int, cast_null}, Meaning.version_terms}
 use Rattle.er_store.proofs.{Effects.{moves_meant, event_replaced}, Together.{rows_set, shows_more}}
 
@@ -73,7 +73,7 @@ moving_here p = record {
 
 -- ---- the table is made
 
-pub player2_created : {old new : State} {e : EventValue} {s : ℕ} → MayMove old e s → Ran player2_text [] old new
+pub player2_created : {old new : State} {e : EventValue} {s : ℕ} → MayMove old e s → Ran create_player2 [] old new
     → IsMoving old new 1 [] e s (old.now.trees player_tree)
 player2_created {old} {new} {e} {s} may ran =
     let made = makes player2_moved may.alone ran in
@@ -151,9 +151,9 @@ players_cleared {old} {new} here numbered ran =
 -- ---- the version is set
 
 pub version_set : (w : ℕ) {old new : State} {v : ℕ} {ps : List Player} {e : EventValue} {s : ℕ} {f : List Row}
-    → IsMoving old old v ps e s f → Ran set_version (number w ∷ []) old new → IsMoving old new w ps e s f
+    → IsMoving old old v ps e s f → Ran set_version (number_value w ∷ []) old new → IsMoving old new w ps e s f
 version_set w {old} {new} {v} {ps} {e} {s} here ran =
-    let set = event_replaced Moved version_terms (number w) (event_columns (event_row v e s)) (stored_event w e s) here.has.tables
+    let set = event_replaced Moved version_terms (number_value w) (event_columns (event_row v e s)) (stored_event w e s) here.has.tables
     (here.has.rows EventTable) (moves_meant here.has.tables).version (λ r h. (cc, cc)) (simp (cast_int, cast_null)) ran in
     record {
       was = set.goes.was;

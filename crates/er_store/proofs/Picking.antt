@@ -1,5 +1,5 @@
 -- How a WHERE picks the one row of a player, among rows that the players' numbers lead.
-use Rattle.er_store.proofs.Prelude.{number, is_eq, column, value_cmp, common_steps, IsPermutation-map, IsPermutation-sym, map-append}
+use Rattle.er_store.proofs.Prelude.{number_value, is_eq, column, value_cmp, common_steps, IsPermutation-map, IsPermutation-sym, map-append}
 use Rattle.er_store.proofs.Prelude.{filter, List, Bool, refl, subst, true, not, false, sym, map, ap, ◌≡◌, ◌∷◌, [], ◌∙◌, ◌++◌, IsPermutation}
 use Rattle.er_store.proofs.Prelude.{Row, filter-map, arith, nat_tests, IsPermutation-filter_both, player_columns, Contains, zero, cond}
 use Rattle.er_store.proofs.Prelude.{drop, ap₂, pos, length, ℕ, Some, not-suc-le-zero, suc, get_or, ◌-◌, ◌≤◌, ◌+◌, ◌==◌, ◌<◌, ◌&&◌}
@@ -40,7 +40,7 @@ module _ {X : Type 0} (columns after : X → Row) (test : Row → Bool) (xs : Li
 
 -- the test of the WHERE
 abbrev pub picks : ℕ → Row → Bool
-picks n row = is_true (binary (Compare Eq Binary) (column row 0) (number n)) && true
+picks n row = is_true (binary (Compare Eq Binary) (column row 0) (number_value n)) && true
 
 abbrev pub is_another : ℕ → Row → Bool
 is_another n row = not (picks n row)
@@ -53,14 +53,14 @@ rows_of players = map player_columns (map player_row players)
 
 -- ---- the test, of a player's row
 
-pub numbers_equal : (n k : ℕ) → is_eq (value_cmp (number n) (number k)) ≡ (n == k)
+pub numbers_equal : (n k : ℕ) → is_eq (value_cmp (number_value n) (number_value k)) ≡ (n == k)
 numbers_equal n k = ap is_eq (value_cmp-Int (pos n) (pos k)) ∙ grind (arith, nat_tests)
 
 pub same_number : (n k : ℕ) → n ≡ k → (n == k) ≡ true
 same_number n k e = grind (arith, nat_tests)
 
 -- it compares the first column
-pub picks-compares : (n : ℕ) (row : Row) → picks n row ≡ is_eq (value_cmp (column row 0) (number n))
+pub picks-compares : (n : ℕ) (row : Row) → picks n row ≡ is_eq (value_cmp (column row 0) (number_value n))
 unfolding binary value_cmp
 picks-compares n row = by_value (column row 0)
   where
@@ -68,12 +68,12 @@ picks-compares n row = by_value (column row 0)
     said true = refl
     said false = refl
 
-    by_value : (v : Value) → (is_true (binary (Compare Eq Binary) v (number n)) && true) ≡ is_eq (value_cmp v (number n))
+    by_value : (v : Value) → (is_true (binary (Compare Eq Binary) v (number_value n)) && true) ≡ is_eq (value_cmp v (number_value n))
     by_value Null = refl
-    by_value v = said (is_eq (value_cmp v (number n)))
+    by_value v = said (is_eq (value_cmp v (number_value n)))
 
-pub picks-number : (k n : ℕ) (row : Row) → column row 0 ≡ number n → picks k row ≡ (n == k)
-picks-number k n row is = picks-compares k row ∙ (ap (λ v. is_eq (value_cmp v (number k))) is ∙ numbers_equal n k)
+pub picks-number : (k n : ℕ) (row : Row) → column row 0 ≡ number_value n → picks k row ≡ (n == k)
+picks-number k n row is = picks-compares k row ∙ (ap (λ v. is_eq (value_cmp v (number_value k))) is ∙ numbers_equal n k)
 
 -- ---- players who are numbered
 
@@ -113,7 +113,7 @@ one_numbered k a (suc i) (p ∷ ps) at below numbered =
 
 -- a row for each player, before and after, which changes for one number alone
 pub record AreRowsBy (before after : Player → Row) (k : ℕ) : Type 0 where
-  pub numbered : (p : Player) → column (before p) 0 ≡ number p.no
+  pub numbered : (p : Player) → column (before p) 0 ≡ number_value p.no
   pub others : (p : Player) → has_number k p ≡ false → after p ≡ before p
 
 -- the number picks one player's row alone, and the rows of the others with the new one are those after

@@ -1,5 +1,6 @@
 -- How a WHERE picks the one match of a round and a table, or of a stage and a slot.
-use Rattle.er_store.proofs.Prelude.{slice_get, get_or, scored, pairing_row, bracket_row, is_true, binary, unary, number, pairing_columns}
+use Rattle.er_store.proofs.Prelude.{slice_get, get_or, match_with_score, pairing_row, bracket_row, is_true, binary, unary, number_value}
+use Rattle.er_store.proofs.Prelude.{pairing_columns}
 use Rattle.er_store.proofs.Prelude.{bracket_columns, common_steps, ◌||◌, ◌∙◌, sym, List, ap, refl, [], ◌∷◌, map, false, true, arith, Bool}
 use Rattle.er_store.proofs.Prelude.{◌++◌, ◌+◌, ap₂, filter, ◌≤◌, Some, ◌≢◌, ◌<◌, None, Option, suc, ◌==◌, not, All, zero, ◌-◌}
 use Rattle.er_store.proofs.Prelude.{if◌then◌else◌, append-nil, ◌&&◌, option_map, IfSome, find, option_to_list, ne_eqb, nat_tests}
@@ -15,13 +16,13 @@ use Rattle.er_store.proofs.Grouped.{bracket_rows_are, rows_from}
 
 -- the test of the WHERE, on columns of which the first two are the round and the table
 abbrev pub picks_table : ℕ → ℕ → Row → Bool
-picks_table k t row = is_true (binary (Compare Eq Binary) (column row 0) (unary ToNumeric (number k)))
-    && (is_true (binary (Compare Eq Binary) (column row 1) (unary ToNumeric (number t))) && true)
+picks_table k t row = is_true (binary (Compare Eq Binary) (column row 0) (unary ToNumeric (number_value k)))
+    && (is_true (binary (Compare Eq Binary) (column row 1) (unary ToNumeric (number_value t))) && true)
 
 abbrev pub is_elsewhere : ℕ → ℕ → Row → Bool
 is_elsewhere k t row = not (picks_table k t row)
 
-equal : (n k : ℕ) → is_true (binary (Compare Eq Binary) (number n) (unary ToNumeric (number k))) ≡ (n == k)
+equal : (n k : ℕ) → is_true (binary (Compare Eq Binary) (number_value n) (unary ToNumeric (number_value k))) ≡ (n == k)
 unfolding binary unary
 equal n k = grind (arith, common_steps, from_truth, is_eq, is_true, numbers_equal, value_cmp)
 
@@ -38,7 +39,7 @@ module _ (t : ℕ) (at : ℕ × Match → Bool) (tells : (n : ℕ × Match) → 
 
 -- those of a group, of which those that pass have this score
 abbrev again : (ℕ × Match → Bool) → Games → ℕ → List Match → List Match
-again at s n ms = map (λ (x : ℕ × Match). if at x then scored s x.1 else x.1) (numbered_from n ms)
+again at s n ms = map (λ (x : ℕ × Match). if at x then match_with_score s x.1 else x.1) (numbered_from n ms)
 
 -- ---- the matches of some groups, each with the number of its group
 
@@ -79,7 +80,7 @@ module _ {L : Type 0} (matches : L → List Match) (at : ℕ × Match → Bool) 
 
   module _ (s : Games) where
     abbrev changed : ℕ × (ℕ × Match) → ℕ × (ℕ × Match)
-    changed x = (x.0, (x.1.0, if picked x then scored s x.1.1 else x.1.1))
+    changed x = (x.0, (x.1.0, if picked x then match_with_score s x.1.1 else x.1.1))
 
     own_changed : (n : ℕ) (ms : List Match)
         → map changed (map (λ m. (k, m)) (numbered_from n ms)) ≡ map (λ m. (k, m)) (numbered_from n (again at s n ms))
@@ -109,7 +110,7 @@ module _ {L : Type 0} (matches : L → List Match) (at : ℕ × Match → Bool) 
 pub record Picks (row : ℕ × Match → Row) (k t : ℕ) (s : Games) (old new : List Row) : Type 0 where
   pub it : ℕ × Match
   pub alone : filter (picks_table k t) old ≡ row it ∷ []
-  pub replaced : IsPermutation (filter (is_elsewhere k t) old ++ row (it.0, scored s it.1) ∷ []) new
+  pub replaced : IsPermutation (filter (is_elsewhere k t) old ++ row (it.0, match_with_score s it.1) ∷ []) new
 
 -- ---- their rows, where the WHERE makes this test
 
@@ -138,14 +139,14 @@ module _ {L : Type 0} (matches : L → List Match) (row : ℕ → ℕ × Match �
       → at it ≡ true → filter at (numbered_from 1 (matches was)) ≡ it ∷ [] → matches is ≡ again at s 1 (matches was)
       → Picks (row k) k t s (shown ls) (shown (set ls (k - 1) is))
   picks_match s ls was is it low found passes alone new =
-      let after : ℕ × (ℕ × Match) → Row = λ x. row x.0 (x.1.0, if picked matches at k x then scored s x.1.1 else x.1.1) in
+      let after : ℕ × (ℕ × Match) → Row = λ x. row x.0 (x.1.0, if picked matches at k x then match_with_score s x.1.1 else x.1.1) in
       let group : map (λ n. (k, n)) (passing matches at k (slice_get ls (k - 1))) ≡ (k, it) ∷ [] =
       ap (λ o. map (λ n. (k, n)) (passing matches at k o)) found ∙ ap (map (λ n. (k, n))) alone in
       let single = filter_same (λ x. picks_table k t (row x.0 x.1)) (picked matches at k) (λ x. told x.0 x.1) (placed matches 1 ls)
       ∙ one_group matches at k 1 (k - 1) ls (omega arith) ∙ group in
       let others = λ (x : ℕ × (ℕ × Match)) (no : picks_table k t (row x.0 x.1) ≡ false).
-      ap (λ (b : Bool). row x.0 (x.1.0, if b then scored s x.1.1 else x.1.1)) (sym (told x.0 x.1) ∙ no) in
-      let own : after (k, it) ≡ row k (it.0, scored s it.1) = rw (same_number k k refl, passes) refl in
+      ap (λ (b : Bool). row x.0 (x.1.0, if b then match_with_score s x.1.1 else x.1.1)) (sym (told x.0 x.1) ∙ no) in
+      let own : after (k, it) ≡ row k (it.0, match_with_score s it.1) = rw (same_number k k refl, passes) refl in
       let all : map after (placed matches 1 ls) ≡ shown (set ls (k - 1) is) =
       sym (map-map (λ x. row x.0 x.1) (changed matches at k s) (placed matches 1 ls))
       ∙ ap (map (λ x. row x.0 x.1)) (set_group matches at k s 1 (k - 1) ls was is (omega arith) found new) in
@@ -241,7 +242,7 @@ module _ (t : ℕ) (s : Games) where
   slots_after n (m ∷ ms) low = grind (arith, nat_tests, slots_after (n + 1) ms (omega arith))
 
   slots_again : (n i : ℕ) (ms : List Match) (m : Match) → t ≡ n + i → slice_get ms i ≡ Some m
-      → set ms i (scored s m) ≡ again has_slot s n ms
+      → set ms i (match_with_score s m) ≡ again has_slot s n ms
   slots_again n i [] m at is = absurd (none-some m is)
   slots_again n zero (x ∷ ms) m at is = grind (arith, common_steps, same_Some, same_number, slots_after)
   slots_again n (suc i) (x ∷ ms) m at is = grind (arith, common_steps, ne_eqb, slots_again (n + 1) i ms m (omega arith) is)
@@ -268,7 +269,7 @@ picks_one_slot e k t s m found =
     let low : 1 ≤ k = grind (arith, nat_tests, group.0) in
     let some : 1 ≤ t = grind (arith, nat_tests, group.0) in
     option_and_then_some (λ (ms : List Match). slice_get ms (t - 1)) (slice_get stages (k - 1)) m group.1 (λ ms is here.
-    let new = set ms (t - 1) (scored s m) in
+    let new = set ms (t - 1) (match_with_score s m) in
     let alone = one_at t (has_slot t s) (slot_tells t s) 1 ms ∙ ap option_to_list (slot_found t s 1 (t - 1) ms m (omega arith) here) in
     let read : get_or stages (k - 1) [] ≡ ms = get_or_from_slice_get stages (k - 1) ms [] is in
     let match : get_or ms (t - 1) (open_match 0 0) ≡ m = get_or_from_slice_get ms (t - 1) m (open_match 0 0) here in

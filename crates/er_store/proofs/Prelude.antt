@@ -20,7 +20,7 @@ pub use Rattle.std.specs.List.Sorted.{IsPermutation}
 pub use Rattle.std.specs.Ordering.{is_eq, ordering_then}
 pub use Rattle.std.specs.Prelude.{IsUtf8}
 pub use Rattle.er_event.specs.Bracket.{slot_at}
-pub use Rattle.er_event.specs.Change.{after, with_round, with_slot_score, with_stage, with_player, with_phase, dropped_at, scored}
+pub use Rattle.er_event.specs.Change.{after, with_round, with_slot_score, with_stage, with_player, with_phase, dropped_at, match_with_score}
 pub use Rattle.er_event.specs.Change.{with_score, new_player}
 pub use Rattle.er_event.specs.Event.{EventValue}
 pub use Rattle.er_event.specs.Name.{is_lawful_name}
@@ -96,29 +96,30 @@ pub use Rattle.sqlite_value.proofs.OrderLemmas.{value_cmp-Int, value_cmp_total}
 pub use Rattle.er_store.specs.Damage.{IsRowFault}
 pub use Rattle.er_store.specs.Fault.{IsFault, reading_refusal}
 pub use Rattle.er_store.specs.Reading.{first_columns, Lists, IsReadRefused, by_first_two, out_of_memory, KeepsTables, by_first}
-pub use Rattle.er_store.specs.Rows.{number, at_places, player_shown, pairing_columns, bracket_columns, tally_columns, pairing_places}
+pub use Rattle.er_store.specs.Rows.{number_value, at_places, player_shown, pairing_columns, bracket_columns, tally_columns, pairing_places}
 pub use Rattle.er_store.specs.Rows.{event_places}
-pub use Rattle.er_store.specs.Rows.{player_places, tally_places, meeting_columns, stored_player, stored_pairing, stored_slot, stored_tally}
+pub use Rattle.er_store.specs.Rows.{player_places, tally_places, stored_player, stored_pairing, stored_slot, stored_tally}
 pub use Rattle.er_store.specs.Rows.{player_columns, bracket_places, event_columns, stored_event, named_columns}
 pub use Rattle.er_store.specs.Shape.{Form, Shape}
-pub use Rattle.er_store.specs.Slip.{match_of_slip, is_swapped, Side, number_in, name_in, named_pairing, IsPlayer, IsLawful, named_pairings}
+pub use Rattle.er_store.specs.Slip.{match_of_slip, is_swapped, Side, number_of_side, name_of_side, named_pairing, IsPlayer, IsLawfulSlip}
+pub use Rattle.er_store.specs.Slip.{named_pairings}
 pub use Rattle.er_store.specs.Layout.{Layout, Old, version_of, players_tree, with_ours}
 pub use Rattle.er_store.specs.Representing.{Represents, RepresentsAt, HasTables, HasTablesAt, RepresentsWith, IsOther, CanRead, IsKeyed}
-pub use Rattle.er_store.specs.Representing.{Shows}
+pub use Rattle.er_store.specs.Representing.{RepresentsNow}
 pub use Rattle.er_store.specs.Representing.{RepresentsIn, IsStoredIn}
 pub use Rattle.er_store.specs.Representing.{rows_in, rows_with, KeepsRest, KeepsOthers, HasRows, AreKeyed}
 pub use Rattle.er_store.specs.Tables.{event_tree, player_tree, pairing_tree, bracket_tree, tally_tree}
 pub use Rattle.er_store.specs.Tables.{no_schema, pairing, bracket, read_event, player, tally, set_serial, set_phase, set_dropped, set_score}
 pub use Rattle.er_store.specs.Tables.{set_slot_score, set_tally, insert_event, insert_player, insert_pairing, insert_slot, insert_tally}
-pub use Rattle.er_store.specs.Tables.{read_players, read_pairings, read_bracket, read_tallies, read_meetings, read_slip, event, old_schema}
+pub use Rattle.er_store.specs.Tables.{read_players, read_pairings, read_bracket, read_tallies, read_slip, event, old_schema}
 pub use Rattle.er_store.specs.Tables.{moved_tree, player2, tally_schema, insert_player2, set_dropped2, read_players2, read_slip2}
-pub use Rattle.er_store.specs.Tables.{players_text, slip_text}
+pub use Rattle.er_store.specs.Tables.{read_players_of, read_slip_of}
 pub use Rattle.er_store.specs.Layout.{New, Moved, StandsAlone}
 pub use Rattle.er_store.specs.Rows.{player2_places, stored_player2}
-pub use Rattle.er_store.specs.declared.rows.MeetingRow.{MeetingRow}
+pub use Rattle.er_store.specs.declared.tallies.MeetingRow.{MeetingRow}
 pub use Rattle.er_store.specs.declared.rows.NamedPairing.{NamedPairing}
 pub use Rattle.er_store.specs.inside.Lookup.{begins_select}
-pub use Rattle.er_store.specs.inside.Meetings.{is_outside, sides_in, meeting_rows, counted_rows, sides_of}
-pub use Rattle.er_store.specs.inside.Queries.{Selects, table_query, SelectsWith, Takes}
+pub use Rattle.er_store.specs.inside.Meetings.{is_outside, sides_in, meeting_rows, complete_rows, sides_of}
+pub use Rattle.er_store.specs.inside.Queries.{Selects, table_query, SelectsWith, TakesParameters}
 pub use Rattle.er_store.specs.inside.Steps.{made_players, Puts, BringsToWith, Ran, Moves, Stays, Goes, IsReady, IsStage, CreatesAll}
 pub use Rattle.er_store.specs.inside.Totals.{set_for, set_up_to}

@@ -1,7 +1,8 @@
 -- Why a read of the tables is refused, and what that says of the file.
 use Rattle.er_store.proofs.Prelude.{arith, common_steps, ◌≡◌, inl, inr, ℕ, List, [], length, sym, ap, subst, ◌∙◌, refl, Row, Query}
 use Rattle.er_store.proofs.Prelude.{IsAnswer, overlay, timed, Select, Trees, Error, SqliteFailure, Null, State, IsPlain, IsReadRefused}
-use Rattle.er_store.proofs.Prelude.{Takes, Selects, SelectsWith, table_query, understood, FailsToQuery, IsNotRun, Shown, ◌≢◌, ◌⊎◌, map}
+use Rattle.er_store.proofs.Prelude.{TakesParameters, Selects, SelectsWith, table_query, understood, FailsToQuery, IsNotRun, Shown, ◌≢◌, ◌⊎◌}
+use Rattle.er_store.proofs.Prelude.{map}
 use Rattle.er_store.proofs.Prelude.{Bool, true, false, None, Option, true≢false, Database, Command, ShowsRows, first, Refusal, Memory}
 use Rattle.er_store.proofs.Prelude.{Damaged, Place, Parts, TallyRow, out_of_memory, reading_refusal, IsRowFault, first_columns}
 use Rattle.er_store.proofs.Prelude.{begins_select, Form, Term}
@@ -10,7 +11,7 @@ use Rattle.sqlite.specs.{State.{IsNoStatement, store_error}, Program.ProgramOver
 use Rattle.sqlite.proofs.Callers.{reads_as}
 use Rattle.sqlite_trees.specs.{declared.error.StoreError.StoreError, declared.error.StoreError.TheVariants.OutOfMemory}
 use Rattle.sqlite_schema.specs.declared.command.Command.TheVariants.{Rows}
-use Rattle.er_store.proofs.{Meaning.{meeting_query, slip_query}, Selecting.never_returns}
+use Rattle.er_store.proofs.{Meaning.slip_query, Selecting.never_returns}
 use Rattle.er_store.specs.Damage.{Answered, IsUnread, IsRefused, IsMisreadAs, MayRead}
 use Rattle.sqlite.specs.declared.error.ErrorCode.TheVariants as code
 
@@ -18,7 +19,7 @@ use Rattle.sqlite.specs.declared.error.ErrorCode.TheVariants as code
 
 -- a text that is one statement, with as many parameters as are given, is a statement
 is_statement : (old : State) (sql : List ℕ) (params : Row) (e : Error) → IsPlain (understood old.now.schema sql)
-    → Takes (length params) sql (understood old.now.schema sql) → ¬ IsNoStatement old sql params e
+    → TakesParameters (length params) sql (understood old.now.schema sql) → ¬ IsNoStatement old sql params e
 is_statement old sql params e plain takes (inl fault) = rw fault.1 at plain
 is_statement old sql params e plain takes (inr (c, is, why)) = grind (arith, common_steps)
 
@@ -57,15 +58,6 @@ slip_sums players params trees (inr fold) = fold.4.4.4
 pub slip_refused : (players : ℕ) (params : Row) {sql : List ℕ} (old new : State) (e : Error)
     → SelectsWith params sql (slip_query players) old.now.schema → FailsToQuery sql params old new e → IsReadRefused old new e
 slip_refused players params old new e = query_refused (slip_query players) params (slip_sums players params) old new e
-
--- nor that of the meetings
-meeting_sums : (trees : Trees) → ¬ ProgramOverflows trees [] [] [] meeting_query
-meeting_sums trees (inl sum) = sum
-meeting_sums trees (inr fold) = fold.4.4.4
-
-pub meetings_refused : {sql : List ℕ} (old new : State) (e : Error)
-    → Selects sql meeting_query old.now.schema → FailsToQuery sql [] old new e → IsReadRefused old new e
-meetings_refused old new e = query_refused meeting_query [] meeting_sums old new e
 
 -- ---- what a refusal of a read says of the file, whatever its schema is
 

@@ -4,14 +4,15 @@ use Rattle.er_store.proofs.Prelude.{has_rowid, numbers, tally_columns, rowid, va
 use Rattle.er_store.proofs.Prelude.{filter, flat_map, Bool, false, if◌then◌else◌, refl, sym, ap, subst, ◌∙◌, ℤ, pos, slice_get, Some, not}
 use Rattle.er_store.proofs.Prelude.{◌≢◌, list_all, IsPermutation, IsPermutation-sym, Row, column, Term, eval_all, holds, IsAnswer, overlay}
 use Rattle.er_store.proofs.Prelude.{Trees, put_row, without_rowid, cast, cast_row, is_taken, Update, State, Table, one_permutation}
-use Rattle.er_store.proofs.Prelude.{filter-map, IsPermutation-filter, filter_same, at_places, number, HasTablesAt, Layout, Old, IsOther}
+use Rattle.er_store.proofs.Prelude.{filter-map, IsPermutation-filter, filter_same, at_places, number_value, HasTablesAt, Layout, Old}
+use Rattle.er_store.proofs.Prelude.{IsOther}
 use Rattle.er_store.proofs.Prelude.{Ran, Goes}
 use Rattle.er_store.proofs.Prelude.{length, Contains, true, range_with_len, IsPermutation-trans, Int, Text, PlayerTable, Player, EventValue}
 use Rattle.er_store.proofs.Prelude.{dropped_at, TallyRow, player, set_dropped, stored_player, RepresentsWith, BringsToWith, TallyTable}
 use Rattle.er_store.proofs.Prelude.{Totals, tally_row, tally_rows_by, tally, set_tally, stored_tally, set_for, map-map, true≢false, Less}
 use Rattle.er_store.proofs.Prelude.{Equal, is_eq, AllByRecursion, Value, Null, value_cmp_total, is_int, filter_all, all_weaker}
 use Rattle.er_store.proofs.Prelude.{all_from_test, test_from_all, BracketTable, PairingTable, Games, Match, is_bye, match_at, slot_at}
-use Rattle.er_store.proofs.Prelude.{scored, with_score, with_slot_score, pairing_row, bracket_row, pairing, bracket, set_score}
+use Rattle.er_store.proofs.Prelude.{match_with_score, with_score, with_slot_score, pairing_row, bracket_row, pairing, bracket, set_score}
 use Rattle.er_store.proofs.Prelude.{set_slot_score, pairing_columns, bracket_columns, IsKeyed}
 use Rattle.er_store.proofs.Prelude.{New, Moved, version_of, players_tree, player_shown, player2, set_dropped2, stored_player2}
 use Rattle.er_store.proofs.Exact.{bare}
@@ -86,15 +87,15 @@ pub sets_number : (l : Layout) (table : Table) (more : Row → Row) (n : ℕ) (r
     → Means sql (Update at (record { lets = []; body = rows_query table.tree dropped_tests terms })) old.now.schema
     → HasTablesAt l old.now.schema → slice_get old.now.schema.tables at ≡ Some table → ((x : ℕ) → IsOther l x → x ≢ table.tree)
     → ((db : Trees) → overlay db [] table.tree ≡ db table.tree)
-    → ((r : Row) → led more r ≡ was → eval_all terms ((number n ∷ values) ∷ r ∷ []) ≡ number n ∷ row)
+    → ((r : Row) → led more r ≡ was → eval_all terms ((number_value n ∷ values) ∷ r ∷ []) ≡ number_value n ∷ row)
     → cast_row table row ≡ row → IsPermutation (map (led more) (old.now.trees table.tree)) all → filter (picks n) all ≡ was ∷ []
-    → Ran sql (number n ∷ values) old new → Goes table.tree old new
+    → Ran sql (number_value n ∷ values) old new → Goes table.tree old new
     × IsPermutation (map (led more) (new.now.trees table.tree)) (filter (is_another n) all ++ led more row ∷ [])
 sets_number l table more n row {values} {was} {all} {terms} {old = old} {new} means has found apart stored gives cast same one ran =
     let trees = old.now.trees in
     let it = one_picked (led more) (picks n) (trees table.tree) all was same one in
     let set = replaces l table (pos n) row means has found apart
-    (λ rows answer. picked_rows table.tree dropped_tests terms trees (number n ∷ values) it.0 rows
+    (λ rows answer. picked_rows table.tree dropped_tests terms trees (number_value n ∷ values) it.0 rows
     (ap (filter (λ x. picks n (led more x))) (stored trees) ∙ it.1) answer
     ∙ ap (λ x. x ∷ []) (gives it.0 it.2)) cast ran in (
       set.goes,
@@ -122,14 +123,14 @@ dropped_keeps n ps keeps first =
 
 pub player_dropped : (n : ℕ) {old new : State} {e : EventValue} {s : ℕ} {kept : List TallyRow} → RepresentsWith Old old.now e s kept
     → numbers e.players ≡ range_with_len 1 (length e.players) → Contains (numbers e.players) n
-    → Ran set_dropped (number n ∷ []) old new → BringsToWith Old old new (with_dropped e n) s kept
+    → Ran set_dropped (number_value n ∷ []) old new → BringsToWith Old old new (with_dropped e n) s kept
 player_dropped n {old} {new} {e} represents numbered known ran =
     let has = represents.has.tables in
     let one = picks_one e.players n numbered known in
     let it = one.it in
     let row = stored_player n it.name true in
     let early : it.joined ≡ 0 = is_early e.players n it (represents.keeps.players refl) one.first in
-    let set = sets_number Old (player player_tree) (λ r. at_places (2 ∷ 3 ∷ []) r ++ number 0 ∷ []) n row (old_meant has).dropped has
+    let set = sets_number Old (player player_tree) (λ r. at_places (2 ∷ 3 ∷ []) r ++ number_value 0 ∷ []) n row (old_meant has).dropped has
     (ap (λ ts. slice_get ts 1) has.are) (λ x other. other.1) (λ db. refl) (λ r h. let is = one.is in cc) (simp (cast_int, cast_null))
     (represents.has.rows PlayerTable) one.alone ran in
     players_set represents (map (dropped_at n) e.players) (dropped_keeps n e.players represents.keeps.players) set.0
@@ -151,7 +152,7 @@ shown_second Moved is rows all same = same
 -- a player of version 2
 pub second_dropped : (n : ℕ) (l : Layout) → version_of l ≡ 2 → {old new : State} {e : EventValue} {s : ℕ} {kept : List TallyRow}
     → RepresentsWith l old.now e s kept → numbers e.players ≡ range_with_len 1 (length e.players) → Contains (numbers e.players) n
-    → Ran set_dropped2 (number n ∷ []) old new → BringsToWith l old new (with_dropped e n) s kept
+    → Ran set_dropped2 (number_value n ∷ []) old new → BringsToWith l old new (with_dropped e n) s kept
 second_dropped n l is {old} {new} {e} represents numbered known ran =
     let has = represents.has.tables in
     let one = picks_one e.players n numbered known in
@@ -170,7 +171,7 @@ row_by come_to p = tally_columns (tally_row p.no (come_to p.no))
 
 -- the parameters of the statement
 abbrev pub totals_row : ℕ → Totals → Row
-totals_row n t = number n ∷ number t.points ∷ number t.rounds ∷ number t.game_points ∷ number t.games ∷ []
+totals_row n t = number_value n ∷ number_value t.points ∷ number_value t.rounds ∷ number_value t.game_points ∷ number_value t.games ∷ []
 
 are_rows : (n : ℕ) (t : Totals) (come_to : ℕ → Totals) → AreRowsBy (row_by come_to) (row_by (set_for n t come_to)) n
 are_rows n t come_to = record {
@@ -267,11 +268,11 @@ module _ (table : Table) (more : List ℕ) where
       {old new : State} → Means sql (Update at (record { lets = []; body = rows_query table.tree score_tests terms })) old.now.schema
       → ((db : Trees) → overlay db [] table.tree ≡ db table.tree) → slice_get old.now.schema.tables at ≡ Some table
       → ((x : ℕ) → IsOther l x → x ≢ table.tree) → ((r : Row) (id : ℤ) → rowid r ≡ Int id → map (column r) places ≡ was
-      → eval_all terms ((number k ∷ number t ∷ values) ∷ r ∷ []) ≡ Int id ∷ Int id ∷ is)
+      → eval_all terms ((number_value k ∷ number_value t ∷ values) ∷ r ∷ []) ≡ Int id ∷ Int id ∷ is)
       → ((id : ℤ) → cast_row table (Int id ∷ is) ≡ Int id ∷ is) → ((id : ℤ) → map (column (Int id ∷ is)) places ≡ is)
       → HasTablesAt l old.now.schema → IsPermutation (map (at_places places) (old.now.trees table.tree)) all
       → IsKeyed (old.now.trees table.tree) → filter (picks_table k t) all ≡ was ∷ []
-      → Ran sql (number k ∷ number t ∷ values) old new → Sets k t is all old new
+      → Ran sql (number_value k ∷ number_value t ∷ values) old new → Sets k t is all old new
   sets_row l k t is {values} {was} {all} {terms} {old = old} {new} means stored found apart gives cast shows has same keyed one ran =
       let rows = old.now.trees table.tree in
       let picks : Row → Bool = λ r. picks_table k t (map (column r) places) in
@@ -281,7 +282,7 @@ module _ (table : Table) (more : List ℕ) where
       let id = int.0 in
       let row : Row = Int id ∷ is in
       let set = replaces l table id row means has found apart
-      (λ rows answer. picked_rows table.tree score_tests terms old.now.trees (number k ∷ number t ∷ values) it.0 rows
+      (λ rows answer. picked_rows table.tree score_tests terms old.now.trees (number_value k ∷ number_value t ∷ values) it.0 rows
       (ap (filter picks) (stored old.now.trees) ∙ it.1) answer ∙ ap (λ x. x ∷ []) (gives it.0 id int.1 it.2)) (cast id) ran in
       let left = rest picks it.0 id int.1 rows keyed.rise it.1 in
       record {
@@ -296,7 +297,7 @@ module _ (table : Table) (more : List ℕ) where
 -- ---- a match of two players
 
 abbrev pub scores : ℕ → ℕ → Games → Row
-scores k t s = number k ∷ number t ∷ number s.x ∷ number s.y ∷ number s.d ∷ []
+scores k t s = number_value k ∷ number_value t ∷ number_value s.x ∷ number_value s.y ∷ number_value s.d ∷ []
 
 pub pairing_scored : (k t : ℕ) (score : Games) {m : Match} {l : Layout} {old new : State} {e : EventValue} {s : ℕ} {kept : List TallyRow}
     → RepresentsWith l old.now e s kept → match_at e k t ≡ Some m → is_bye m ≡ false
@@ -304,7 +305,7 @@ pub pairing_scored : (k t : ℕ) (score : Games) {m : Match} {l : Layout} {old n
 pairing_scored k t score {m} {l} {e = e} represents found seat ran =
     let has = represents.has.tables in
     let one = picks_one_table e k t score m found seat in
-    let row = pairing_row k (one.it.0, scored score one.it.1) in
+    let row = pairing_row k (one.it.0, match_with_score score one.it.1) in
     let set = sets_row (pairing pairing_tree) (3 ∷ 4 ∷ 5 ∷ 6 ∷ 7 ∷ 8 ∷ 9 ∷ []) l k t (pairing_columns row) (meant has).score
     (λ db. refl) (pairing_at l has) (λ x other. other.2) (λ r id own h. cc) (λ id. simp cast_int) (λ id. refl)
     has (represents.has.rows PairingTable) represents.has.keyed.pairings one.alone ran in
@@ -318,7 +319,7 @@ pub slot_scored : (k t : ℕ) (score : Games) {m : Match} {l : Layout} {old new 
 slot_scored k t score {m} {l} {e = e} represents found ran =
     let has = represents.has.tables in
     let one = picks_one_slot e k t score m found in
-    let row = bracket_row k (one.it.0, scored score one.it.1) in
+    let row = bracket_row k (one.it.0, match_with_score score one.it.1) in
     let set = sets_row (bracket bracket_tree) (3 ∷ 4 ∷ 5 ∷ 6 ∷ 7 ∷ 8 ∷ []) l k t (bracket_columns row) (meant has).slot_score (λ db. refl)
     (bracket_at l has) (λ x other. other.3) (λ r id own h. cc) (λ id. simp cast_int) (λ id. refl)
     has (represents.has.rows BracketTable) represents.has.keyed.bracket one.alone ran in

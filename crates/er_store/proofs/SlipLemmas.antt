@@ -1,7 +1,8 @@
 -- A slip and the row that it is read of.
 use Rattle.er_store.proofs.Prelude.{nat_lt, cond, max, min, false, Bool, arith, sym, refl, ℕ, subst, true, ◌≡◌, nat_tests, common_steps}
-use Rattle.er_store.proofs.Prelude.{List, Option, Some, IfSome, ◌∙◌, same_Some, Match, SlipRow, pairing_row, NamedPairing, Side, number_in}
-use Rattle.er_store.proofs.Prelude.{name_in, match_of_slip, is_swapped, named_pairing, IsPlayer, IsLawful}
+use Rattle.er_store.proofs.Prelude.{List, Option, Some, IfSome, ◌∙◌, same_Some, Match, SlipRow, pairing_row, NamedPairing, Side}
+use Rattle.er_store.proofs.Prelude.{number_of_side}
+use Rattle.er_store.proofs.Prelude.{name_of_side, match_of_slip, is_swapped, named_pairing, IsPlayer, IsLawfulSlip}
 use Rattle.er_event.specs.Match.{MayStand}
 
 -- ---- what a test chooses of two, as the lesser or the greater of two numbers
@@ -30,7 +31,7 @@ of_max P a b p q = subst P (sym (max_is a b)) (either_of P (nat_lt b a) a b p q)
 -- ---- a slip and the row that it is read of
 
 -- the match of the slip stands there
-pub match_row : (slip : SlipRow) (round table : ℕ) (row : NamedPairing) → IsLawful slip → slip.round ≡ round → slip.table ≡ table
+pub match_row : (slip : SlipRow) (round table : ℕ) (row : NamedPairing) → IsLawfulSlip slip → slip.round ≡ round → slip.table ≡ table
     → row ≡ named_pairing slip → MayStand table (match_of_slip slip) × (row.pairing ≡ pairing_row round (table, match_of_slip slip))
 match_row slip round table row lawful r t is = grind (arith, common_steps)
 
@@ -43,14 +44,14 @@ high_of slip = cond (is_swapped slip) (Some slip.first) slip.second
 
 pub record IsSide (who : Side) (number : ℕ) (name : Option (List ℕ)) : Type 0 where
   pub player : IfSome who IsPlayer
-  pub number_is : number ≡ number_in who
-  pub name_is : name ≡ name_in who
+  pub number_is : number ≡ number_of_side who
+  pub name_is : name ≡ name_of_side who
 
-pub low_side : (slip : SlipRow) (row : NamedPairing) (m : Match) → IsLawful slip → row ≡ named_pairing slip → m ≡ match_of_slip slip
+pub low_side : (slip : SlipRow) (row : NamedPairing) (m : Match) → IsLawfulSlip slip → row ≡ named_pairing slip → m ≡ match_of_slip slip
     → IsSide (low_of slip) (min m.a m.b) row.lo_name
 low_side slip row m lawful is same = grind (arith, common_steps)
 
-pub high_side : (slip : SlipRow) (row : NamedPairing) (m : Match) → IsLawful slip → row ≡ named_pairing slip → m ≡ match_of_slip slip
+pub high_side : (slip : SlipRow) (row : NamedPairing) (m : Match) → IsLawfulSlip slip → row ≡ named_pairing slip → m ≡ match_of_slip slip
     → IsSide (high_of slip) (max m.a m.b) row.hi_name
 high_side slip row m lawful is same = grind (arith, common_steps)
 
@@ -60,7 +61,7 @@ pub record ReadsSlip (slip : SlipRow) (row : NamedPairing) (played : Match) : Ty
   pub low : IsSide (low_of slip) (min played.a played.b) row.lo_name
   pub high : IsSide (high_of slip) (max played.a played.b) row.hi_name
 
-pub reads_slip : {slip : SlipRow} {round table : ℕ} {row : NamedPairing} {read : Option Match} {played : Match} → IsLawful slip
+pub reads_slip : {slip : SlipRow} {round table : ℕ} {row : NamedPairing} {read : Option Match} {played : Match} → IsLawfulSlip slip
     → slip.round ≡ round → slip.table ≡ table → row ≡ named_pairing slip → read ≡ Some played
     → ((m : Match) → MayStand table m → row.pairing ≡ pairing_row round (table, m) → read ≡ Some m) → ReadsSlip slip row played
 reads_slip {slip} {round} {table} {row} {read} {played} lawful r t is found exact =

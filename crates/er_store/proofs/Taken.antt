@@ -12,7 +12,7 @@ use Rattle.sqlite_resolve.specs.Compile.{create_table, creates, is_attached, is_
 use Rattle.sqlite_resolve.specs.Compile.{compiled}
 use Rattle.sqlite_catalog.specs.Change.{is_used}
 use Rattle.sqlite.specs.{Listing.misses_table, State.ExecutesIn}
-use Rattle.er_store.specs.{Tables.player2_text, Migrated.IsTaken}
+use Rattle.er_store.specs.{Tables.create_player2, Migrated.IsTaken}
 
 -- the statement is refused, and not for want of a table
 pub record IsRefused {X : Type 0} (c : Checked X) : Type 0 where
@@ -69,9 +69,9 @@ never_ran sql params old new refused ran =
     cc
 
 -- as the one that makes `player2`
-player2_refused : (schema : Schema) → is_used schema (codes "player2") ≡ true → IsRefused (compiled schema player2_text)
+player2_refused : (schema : Schema) → is_used schema (codes "player2") ≡ true → IsRefused (compiled schema create_player2)
 unfolding everything digits
-player2_refused schema used = compiled_refused schema player2_text _ _ refl refl refl used
+player2_refused schema used = compiled_refused schema create_player2 _ _ refl refl refl used
 
-pub not_made : (old new : State) → IsTaken old.now → Ran player2_text [] old new → ⊥
-not_made old new used = never_ran player2_text [] old new (player2_refused old.now.schema used)
+pub not_made : (old new : State) → IsTaken old.now → Ran create_player2 [] old new → ⊥
+not_made old new used = never_ran create_player2 [] old new (player2_refused old.now.schema used)

@@ -13,19 +13,20 @@ use Rattle.er_event.specs.Parts.{parts_of}
 use Rattle.er_event.specs.Rows.{tally_rows}
 use Rattle.er_event.specs.Sound.{IsSoundButForSeeds}
 use Rattle.er_store.specs.declared.Store.{Store}
-use Rattle.er_store.specs.Beside.{ShowsBeside, IsStoredBeside}
+use Rattle.er_store.specs.Beside.{HoldsBeside, IsStoredBeside}
 use Rattle.er_store.specs.Damage.{ReadsParts, ReadsTallies, IsAtFault, IfDamaged}
 use Rattle.er_store.specs.Fault.{IsFault, IsLoadFault}
 use Rattle.er_store.specs.Loading.{HoldsEvent}
 use Rattle.er_store.specs.Reading.{KeepsTables}
-use Rattle.er_store.specs.Representing.{HasTables, AreKeyed, Represents, RepresentsIn, IsStoredIn, Shows, Leaves, Either, CanRead}
+use Rattle.er_store.specs.Representing.{HasTables, AreKeyed, Represents, RepresentsIn, IsStoredIn, RepresentsNow, AfterCrash, Either}
+use Rattle.er_store.specs.Representing.{CanRead}
 use Rattle.er_store.specs.Representing.{ReadsEvent}
-use Rattle.er_store.specs.Store.{state, version_in, needs_reopen}
+use Rattle.er_store.specs.Store.{store_state, store_version, needs_reopen}
 use Rattle.er_store.specs.Tables.{no_schema, players_of, player_tree, tally_schema}
 
 -- what a connection shows
-abbrev pub held : {S : Type 0} (g : Ghosts S) → Held S → State
-held g conn = sqlite.state g conn
+abbrev pub held_state : {S : Type 0} (g : Ghosts S) → Held S → State
+held_state g conn = sqlite.state g conn
 
 -- the five tables of this version and no other, with no index or view of others
 abbrev pub alone_schema : ℕ → Schema
@@ -34,89 +35,89 @@ alone_schema version = tally_schema (players_of version player_tree)
 -- The five tables of a new event were made in this version, with serial 0.
 pub record IsCreated {S : Type 0} (g : Ghosts S) (v : ℕ) (e : EventValue) (old : State) (made : Store S g) : Type 0 where
   pub ready : IsFalse (needs_reopen made)
-  pub version : version_in made ≡ v
-  pub clean : HasCleanDisk (state g made) → HasCleanDisk old
+  pub version : store_version made ≡ v
+  pub clean : HasCleanDisk (store_state g made) → HasCleanDisk old
   -- nothing called `event` could be read before, and no tables of an event stood there
-  pub absent : HasCleanDisk (state g made)
+  pub absent : HasCleanDisk (store_state g made)
       → (CanRead old.now.schema → ⊥)
       × ((other : ℕ) → HasTables other old.now.schema → ⊥)
   -- whatever stood in the file stands as it was, and the five tables are there beside it, after a crash too
-  pub beside : HasCleanDisk (state g made) → ShowsBeside v e old.now (state g made)
+  pub beside : HasCleanDisk (store_state g made) → HoldsBeside v e old.now (store_state g made)
   -- in an empty file they then stand alone and represent the event, and so does each thing that a crash may leave
-  pub alone : HasCleanDisk (state g made) → old.now.schema ≡ no_schema
-      → (state g made).now.schema ≡ alone_schema v
-  pub created : HasCleanDisk (state g made) → old.now.schema ≡ no_schema → Shows v (state g made) e 0
-  pub acknowledged : old.now.schema ≡ no_schema → Leaves (state g made) (IsStoredIn v e 0)
+  pub alone : HasCleanDisk (store_state g made) → old.now.schema ≡ no_schema
+      → (store_state g made).now.schema ≡ alone_schema v
+  pub created : HasCleanDisk (store_state g made) → old.now.schema ≡ no_schema → RepresentsNow v (store_state g made) e 0
+  pub acknowledged : old.now.schema ≡ no_schema → AfterCrash (store_state g made) (IsStoredIn v e 0)
 
 -- They were not, and the connection comes back.
 pub record IsNotCreated {S : Type 0} (g : Ghosts S) (v : ℕ) (e : EventValue) (old : State) (left : Held S × Refusal)
     : Type 0 where
   pub mode : left.0.in_transaction ≡ false
-  pub clean : HasCleanDisk (held g left.0) → HasCleanDisk old
+  pub clean : HasCleanDisk (held_state g left.0) → HasCleanDisk old
   pub why : (left.1 ≡ EventExists) ⊎ IsFault left.1
   -- something called `event` can be read, and nothing is made there
-  pub exists : left.1 ≡ EventExists → HasCleanDisk (held g left.0)
+  pub exists : left.1 ≡ EventExists → HasCleanDisk (held_state g left.0)
       → CanRead old.now.schema
       × (old.now.schema ≢ no_schema)
-      × IsUnchanged old (held g left.0)
+      × IsUnchanged old (held_state g left.0)
   -- no table changes, and where `event` can be read a crash then leaves what it could before
-  pub kept : HasCleanDisk (held g left.0) → KeepsTables old (held g left.0)
-  pub spares : CanRead old.now.schema → Leaves (held g left.0) old.may_leave
+  pub kept : HasCleanDisk (held_state g left.0) → KeepsTables old (held_state g left.0)
+  pub spares : CanRead old.now.schema → AfterCrash (held_state g left.0) old.may_leave
   -- else it may leave the new event whole too
   pub crash : old.now.schema ≡ no_schema
-      → Leaves (held g left.0) (Either old.may_leave (IsStoredIn v e 0))
-  pub beside_crash : Leaves (held g left.0)
+      → AfterCrash (held_state g left.0) (Either old.may_leave (IsStoredIn v e 0))
+  pub beside_crash : AfterCrash (held_state g left.0)
       (Either old.may_leave (IsStoredBeside v e old.now))
 
 -- A creation: the tables are made in this version, or the connection comes back.
 abbrev pub Creates : {S : Type 0} (g : Ghosts S) (version : ℕ) → EventValue → Held S
     → Result (Store S g) (Held S × Refusal) → Type 0
 Creates g version e conn result =
-    MatchResult result (IsCreated g version e (held g conn)) (IsNotCreated g version e (held g conn))
+    MatchResult result (IsCreated g version e (held_state g conn)) (IsNotCreated g version e (held_state g conn))
 
 -- What the tables show was taken over, in the version that the event's row says: a store, the event and its serial.
 pub record IsAdopted {S : Type 0} (g : Ghosts S) (old : State) (it : Store S g × EventValue × ℕ) : Type 0 where
   pub ready : IsFalse (needs_reopen it.0)
   pub low : it.2 ≤ MAX_SERIAL
   pub sound : IsSoundButForSeeds it.1
-  pub clean : HasCleanDisk (state g it.0) → HasCleanDisk old
+  pub clean : HasCleanDisk (store_state g it.0) → HasCleanDisk old
   -- nothing is written, and a crash leaves what it could before
-  pub same : HasCleanDisk (state g it.0) → IsUnchanged old (state g it.0)
-  pub crash : Leaves (state g it.0) old.may_leave
+  pub same : HasCleanDisk (store_state g it.0) → IsUnchanged old (store_state g it.0)
+  pub crash : AfterCrash (store_state g it.0) old.may_leave
   -- whatever the tables hold, what is found is what they show
-  pub reads : HasCleanDisk (state g it.0)
-      → ReadsParts old.now (parts_of (version_in it.0) it.1 it.2)
+  pub reads : HasCleanDisk (store_state g it.0)
+      → ReadsParts old.now (parts_of (store_version it.0) it.1 it.2)
       × ReadsTallies old.now (tally_rows it.1)
-  pub shows : HasCleanDisk (state g it.0) → HasTables (version_in it.0) old.now.schema
-      → HoldsEvent (version_in it.0) old.now it.1 it.2
+  pub shows : HasCleanDisk (store_state g it.0) → HasTables (store_version it.0) old.now.schema
+      → HoldsEvent (store_version it.0) old.now it.1 it.2
   -- where they are ours, they represent it, and a change can be written to them
-  pub represents : HasCleanDisk (state g it.0) → HasTables (version_in it.0) old.now.schema
-      → AreKeyed old.now → Shows (version_in it.0) (state g it.0) it.1 it.2
+  pub represents : HasCleanDisk (store_state g it.0) → HasTables (store_version it.0) old.now.schema
+      → AreKeyed old.now → RepresentsNow (store_version it.0) (store_state g it.0) it.1 it.2
   -- of tables that represent a sound event just that is found, with their version, and a crash leaves it in that version
-  pub found : HasCleanDisk (state g it.0) → (e : EventValue) (s : ℕ) → Represents old.now e s
-      → IsSoundButForSeeds e → (it.1 ≡ e) × (it.2 ≡ s) × Shows (version_in it.0) (state g it.0) e s
-  pub version : HasCleanDisk (state g it.0) → (e : EventValue) (s v : ℕ) → RepresentsIn v old.now e s
-      → IsSoundButForSeeds e → version_in it.0 ≡ v
+  pub found : HasCleanDisk (store_state g it.0) → (e : EventValue) (s : ℕ) → Represents old.now e s
+      → IsSoundButForSeeds e → (it.1 ≡ e) × (it.2 ≡ s) × RepresentsNow (store_version it.0) (store_state g it.0) e s
+  pub version : HasCleanDisk (store_state g it.0) → (e : EventValue) (s v : ℕ) → RepresentsIn v old.now e s
+      → IsSoundButForSeeds e → store_version it.0 ≡ v
   pub leaves : (e : EventValue) (s : ℕ) → Represents old.now e s
-      → IsSoundButForSeeds e → Leaves (state g it.0) (IsStoredIn (version_in it.0) e s)
+      → IsSoundButForSeeds e → AfterCrash (store_state g it.0) (IsStoredIn (store_version it.0) e s)
 
 -- It was not, and the connection comes back.
 pub record IsNotAdopted {S : Type 0} (g : Ghosts S) (old : State) (left : Held S × Refusal) : Type 0 where
   pub mode : left.0.in_transaction ≡ false
-  pub clean : HasCleanDisk (held g left.0) → HasCleanDisk old
+  pub clean : HasCleanDisk (held_state g left.0) → HasCleanDisk old
   pub why : (left.1 ≡ NoEvent) ⊎ IsLoadFault left.1
   -- where the event's rows can be read, there is an event
-  pub no_event : left.1 ≡ NoEvent → HasCleanDisk (held g left.0) → ReadsEvent old.now.schema → ⊥
+  pub no_event : left.1 ≡ NoEvent → HasCleanDisk (held_state g left.0) → ReadsEvent old.now.schema → ⊥
   -- a damaged table is the first at fault, and is named only where they can
-  pub first : HasCleanDisk (held g left.0) → IfDamaged (IsAtFault old.now) left.1
-  pub readable : HasCleanDisk (held g left.0) → IfDamaged (λ _. ReadsEvent old.now.schema) left.1
+  pub first : HasCleanDisk (held_state g left.0) → IfDamaged (IsAtFault old.now) left.1
+  pub readable : HasCleanDisk (held_state g left.0) → IfDamaged (λ _. ReadsEvent old.now.schema) left.1
   -- of tables that represent a sound event, memory or the store fails
-  pub fails : HasCleanDisk (held g left.0) → (e : EventValue) (s : ℕ) → Represents old.now e s
+  pub fails : HasCleanDisk (held_state g left.0) → (e : EventValue) (s : ℕ) → Represents old.now e s
       → IsSoundButForSeeds e → IsFault left.1
   -- no table changes, and a crash leaves what it could before
-  pub kept : HasCleanDisk (held g left.0) → KeepsTables old (held g left.0)
-  pub crash : Leaves (held g left.0) old.may_leave
+  pub kept : HasCleanDisk (held_state g left.0) → KeepsTables old (held_state g left.0)
+  pub crash : AfterCrash (held_state g left.0) old.may_leave
 
 -- An opening: the event is found, or the connection comes back.
 abbrev pub Adopts : {S : Type 0} (g : Ghosts S) → Held S → Result (Store S g × EventValue × ℕ) (Held S × Refusal) → Type 0
-Adopts g conn result = MatchResult result (IsAdopted g (held g conn)) (IsNotAdopted g (held g conn))
+Adopts g conn result = MatchResult result (IsAdopted g (held_state g conn)) (IsNotAdopted g (held_state g conn))

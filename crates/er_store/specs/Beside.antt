@@ -58,7 +58,7 @@ pub record IsStoredBeside (version : ℕ) (e : EventValue) (old : Database) (tre
   pub makes : MakesBeside version e old (record { schema = schema; trees = trees })
 
 -- The connection sees them so beside what stood, with nothing pending, and a crash leaves them so.
-pub record ShowsBeside (version : ℕ) (e : EventValue) (old : Database) (s : State) : Type 0 where
+pub record HoldsBeside (version : ℕ) (e : EventValue) (old : Database) (s : State) : Type 0 where
   pub is_open : IsTrue s.is_open
   pub sound : IsDatabase s.now
   pub settled : s.now ≡ s.committed

@@ -10,8 +10,8 @@ use Rattle.er_event.specs.declared.refusals.Refusal.TheVariants.{NeedsReopen}
 use Rattle.er_store.specs.declared.Store.{Store}
 use Rattle.er_store.specs.Fault.{IsFault, IsReadFault}
 use Rattle.er_store.specs.Reading.{KeepsTables}
-use Rattle.er_store.specs.Representing.{IsStoredIn, Shows, Leaves, Either, KeepsOthers}
-use Rattle.er_store.specs.Store.{state, version_in, needs_reopen}
+use Rattle.er_store.specs.Representing.{IsStoredIn, RepresentsNow, AfterCrash, Either, KeepsOthers}
+use Rattle.er_store.specs.Store.{store_state, store_version, needs_reopen}
 
 -- Which refusals a call has, and whether the store has stopped with them:
 
@@ -35,13 +35,13 @@ pub record OnlyReads {S A : Type 0} (g : Ghosts S) (Stops : Refusal → Bool →
   pub waits : IsTrue (needs_reopen old) → (result ≡ Err NeedsReopen) × (new ≡ old)
   pub stops : IsFalse (needs_reopen old)
       → MatchResult result (λ _. IsFalse (needs_reopen new)) (λ why. Stops why (needs_reopen new))
-  pub version : version_in new ≡ version_in old
+  pub version : store_version new ≡ store_version old
   -- the disk was clean if it is
-  pub clean : HasCleanDisk (state g new) → HasCleanDisk (state g old)
+  pub clean : HasCleanDisk (store_state g new) → HasCleanDisk (store_state g old)
   -- what is answered changes nothing, and a refusal no table
-  pub same : HasCleanDisk (state g new) → OnOk result (IsUnchanged (state g old) (state g new))
-  pub kept : HasCleanDisk (state g new) → OnErr result (KeepsTables (state g old) (state g new))
-  pub crash : Leaves (state g new) (state g old).may_leave
+  pub same : HasCleanDisk (store_state g new) → OnOk result (IsUnchanged (store_state g old) (store_state g new))
+  pub kept : HasCleanDisk (store_state g new) → OnErr result (KeepsTables (store_state g old) (store_state g new))
+  pub crash : AfterCrash (store_state g new) (store_state g old).may_leave
 
 -- this is found, or memory or the store fails
 abbrev pub OrFails : {A : Type 0} → (A → Type 0) → Result A Refusal → Type 0
@@ -51,7 +51,7 @@ OrFails Is result = MatchResult result Is IsFault
 abbrev pub Finds : {S A : Type 0} (g : Ghosts S) → (Database → EventValue → ℕ → Type 0) → (EventValue → ℕ → Result A Refusal → Type 0)
     → Store S g → Result A Refusal → Store S g → Type 0
 Finds g See Answers old result new =
-    IsFalse (needs_reopen old) → HasCleanDisk (state g new) → (e : EventValue) (s : ℕ) → See (state g old).now e s
+    IsFalse (needs_reopen old) → HasCleanDisk (store_state g new) → (e : EventValue) (s : ℕ) → See (store_state g old).now e s
     → IsSoundButForSeeds e → Answers e s result
 
 -- A change of the event is written with the next serial, in one transaction: it is there whole, or not at all.
@@ -61,18 +61,19 @@ pub record WritesChange {S : Type 0} (g : Ghosts S) (e next : EventValue) (seria
   pub waits : IsTrue (needs_reopen old) → (result ≡ Err NeedsReopen) × (new ≡ old)
   pub stops : IsFalse (needs_reopen old)
       → MatchResult result (λ _. IsFalse (needs_reopen new)) (λ why. StopsByFault why (needs_reopen new))
-  pub version : version_in new ≡ version_in old
-  pub clean : HasCleanDisk (state g new) → HasCleanDisk (state g old)
+  pub version : store_version new ≡ store_version old
+  pub clean : HasCleanDisk (store_state g new) → HasCleanDisk (store_state g old)
   -- a refusal changes no table, whatever the tables hold
-  pub kept : HasCleanDisk (state g new) → OnErr result (KeepsTables (state g old) (state g new))
+  pub kept : HasCleanDisk (store_state g new) → OnErr result (KeepsTables (store_state g old) (store_state g new))
   -- at every exit the other tables stay, as long as the connection shows any
-  pub others : HasCleanDisk (state g new) → Shows (version_in old) (state g old) e serial → IsTrue (state g new).is_open
-      → KeepsOthers (version_in old) (state g old).now (state g new).now
+  pub others : HasCleanDisk (store_state g new) → RepresentsNow (store_version old) (store_state g old) e serial
+      → IsTrue (store_state g new).is_open
+      → KeepsOthers (store_version old) (store_state g old).now (store_state g new).now
   -- what was acknowledged is there, also after a crash, and what was cut off is there whole or not at all
-  pub written : HasCleanDisk (state g new) → Shows (version_in old) (state g old) e serial
-      → OnOk result (Shows (version_in old) (state g new) next (serial + 1))
-  pub acknowledged : Shows (version_in old) (state g old) e serial
-      → OnOk result (Leaves (state g new) (IsStoredIn (version_in old) next (serial + 1)))
-  pub crash : IsFalse (needs_reopen old) → Shows (version_in old) (state g old) e serial
-      → Leaves (state g new)
-      (Either (IsStoredIn (version_in old) e serial) (IsStoredIn (version_in old) next (serial + 1)))
+  pub written : HasCleanDisk (store_state g new) → RepresentsNow (store_version old) (store_state g old) e serial
+      → OnOk result (RepresentsNow (store_version old) (store_state g new) next (serial + 1))
+  pub acknowledged : RepresentsNow (store_version old) (store_state g old) e serial
+      → OnOk result (AfterCrash (store_state g new) (IsStoredIn (store_version old) next (serial + 1)))
+  pub crash : IsFalse (needs_reopen old) → RepresentsNow (store_version old) (store_state g old) e serial
+      → AfterCrash (store_state g new)
+      (Either (IsStoredIn (store_version old) e serial) (IsStoredIn (store_version old) next (serial + 1)))

@@ -20,10 +20,10 @@ use Rattle.er_event.specs.Sound.{IsSoundButForSeeds}
 use Rattle.er_event.specs.declared.rows.event.EventRow.{EventRow}
 use Rattle.std.specs.List.{list_any}
 use Rattle.std.specs.Ordering.{int_eq}
-use Rattle.er_store.specs.Tables.{players_text, read_event, read_pairings, read_bracket, read_tallies}
+use Rattle.er_store.specs.Tables.{read_players_of, read_event, read_pairings, read_bracket, read_tallies}
 use Rattle.er_store.specs.Shape.{Form, event_form, player_form, pairing_form, bracket_form, tally_form}
 use Rattle.er_store.specs.Reading.{first_columns}
-use Rattle.er_store.specs.Representing.{HasTables, AreKeyed, Shows}
+use Rattle.er_store.specs.Representing.{HasTables, AreKeyed, RepresentsNow}
 use Rattle.er_store.specs.Loading.{HoldsEvent}
 use Rattle.sqlite.specs.State.{State}
 
@@ -79,7 +79,7 @@ abbrev pub said_version : List EventRow → ℕ
 said_version events = if says_second events then 2 else 1
 
 abbrev pub said_players : List EventRow → List ℕ
-said_players events = players_text (said_version events)
+said_players events = read_players_of (said_version events)
 
 -- where the event's own rows were read, these rows decide
 abbrev pub IsMisread : List EventRow → Database → Place → Type 0
@@ -145,4 +145,4 @@ pub record FindsEvent (version : ℕ) (old new : State) (e : EventValue) (serial
   pub parts : ReadsParts old.now (parts_of version e serial)
   pub tallies : ReadsTallies old.now (tally_rows e)
   pub shows : HasTables version old.now.schema → HoldsEvent version old.now e serial
-  pub represents : HasTables version old.now.schema → AreKeyed old.now → Shows version new e serial
+  pub represents : HasTables version old.now.schema → AreKeyed old.now → RepresentsNow version new e serial

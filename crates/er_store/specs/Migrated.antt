@@ -13,17 +13,17 @@ use Rattle.er_store.specs.Fault.{IsFault}
 use Rattle.er_store.specs.Tables.{player_tree}
 use Rattle.er_store.specs.Layout.{StandsAlone}
 use Rattle.er_store.specs.Reading.{KeepsTables}
-use Rattle.er_store.specs.Representing.{IsStoredIn, Shows, Leaves}
-use Rattle.er_store.specs.Store.{state, version_in, needs_reopen}
+use Rattle.er_store.specs.Representing.{IsStoredIn, RepresentsNow, AfterCrash}
+use Rattle.er_store.specs.Store.{store_state, store_version, needs_reopen}
 
 -- The tables represent the event in version 1, and alone in the file.
-pub record MayMigrate (s : State) (e : EventValue) (serial : ℕ) : Type 0 where
-  pub shows : Shows 1 s e serial
+pub record IsVersion1Alone (s : State) (e : EventValue) (serial : ℕ) : Type 0 where
+  pub shows : RepresentsNow 1 s e serial
   pub alone : StandsAlone s.now.schema
 
 -- They represent it in version 2, totals included, and `player` has no rows.
 pub record IsMigrated (s : State) (e : EventValue) (serial : ℕ) : Type 0 where
-  pub shows : Shows 2 s e serial
+  pub shows : RepresentsNow 2 s e serial
   pub emptied : s.now.trees player_tree ≡ []
 
 -- a table, an index or a view has the name `player2` already
@@ -35,15 +35,15 @@ abbrev pub IsStoredWhole : EventValue → ℕ → Trees → Type 0
 IsStoredWhole e serial trees = IsStoredIn 1 e serial trees ⊎ IsStoredIn 2 e serial trees
 
 -- the version that a store works in, and whether it has stopped
-pub record Turn : Type 0 where
+pub record StoreStatus : Type 0 where
   pub version : ℕ
   pub needs_reopen : Bool
 
-abbrev pub turn_of : {S : Type 0} {g : Ghosts S} → Store S g → Turn
-turn_of store = record { version = version_in store; needs_reopen = needs_reopen store }
+abbrev pub store_status : {S : Type 0} {g : Ghosts S} → Store S g → StoreStatus
+store_status store = record { version = store_version store; needs_reopen = needs_reopen store }
 
 -- what one call of `migrate` answers, and how the store works then
-abbrev pub MigratesStore : Turn → Result (Unit {0}) Refusal → Turn → Type 0
+abbrev pub MigratesStore : StoreStatus → Result (Unit {0}) Refusal → StoreStatus → Type 0
 MigratesStore old (Ok done) new = IsFalse old.needs_reopen × IsFalse new.needs_reopen × (new.version ≡ 2)
 MigratesStore old (Err why) new =
     (IsTrue old.needs_reopen × (why ≡ NeedsReopen) × (new ≡ old))
@@ -53,19 +53,20 @@ MigratesStore old (Err why) new =
 pub record MovesTables {S : Type 0} (g : Ghosts S) (e : EventValue) (serial : ℕ)
     (old : Store S g) (result : Result (Unit {0}) Refusal) (new : Store S g)
     : Type 0 where
-  pub turn : MigratesStore (turn_of old) result (turn_of new)
+  pub turn : MigratesStore (store_status old) result (store_status new)
   -- a store that has stopped, or whose tables are of version 2, stays as it is
-  pub waits : IsTrue (needs_reopen old) ⊎ (version_in old ≡ 2) → new ≡ old
-  pub clean : HasCleanDisk (state g new) → HasCleanDisk (state g old)
+  pub waits : IsTrue (needs_reopen old) ⊎ (store_version old ≡ 2) → new ≡ old
+  pub clean : HasCleanDisk (store_state g new) → HasCleanDisk (store_state g old)
   -- a refusal changes no table, whatever the tables hold
-  pub kept : HasCleanDisk (state g new) → OnErr result (KeepsTables (state g old) (state g new))
+  pub kept : HasCleanDisk (store_state g new) → OnErr result (KeepsTables (store_state g old) (store_state g new))
   -- it is refused where the name `player2` is taken, and a crash then leaves version 1
-  pub taken : IsFalse (needs_reopen old) → version_in old ≡ 1 → HasCleanDisk (state g new) → IsTaken (state g old).now
-      → IsErr result × (Shows 1 (state g old) e serial → Leaves (state g new) (IsStoredIn 1 e serial))
+  pub taken : IsFalse (needs_reopen old) → store_version old ≡ 1 → HasCleanDisk (store_state g new) → IsTaken (store_state g old).now
+      → IsErr result × (RepresentsNow 1 (store_state g old) e serial → AfterCrash (store_state g new) (IsStoredIn 1 e serial))
   -- tables that represent the event in version 1, and alone, then represent it in version 2, totals included, and `player` has no rows
-  pub migrated : HasCleanDisk (state g new) → version_in old ≡ 1 → MayMigrate (state g old) e serial
-      → OnOk result (IsMigrated (state g new) e serial)
-  pub acknowledged : version_in old ≡ 1 → MayMigrate (state g old) e serial → OnOk result (Leaves (state g new) (IsStoredIn 2 e serial))
+  pub migrated : HasCleanDisk (store_state g new) → store_version old ≡ 1 → IsVersion1Alone (store_state g old) e serial
+      → OnOk result (IsMigrated (store_state g new) e serial)
+  pub acknowledged : store_version old ≡ 1 → IsVersion1Alone (store_state g old) e serial
+      → OnOk result (AfterCrash (store_state g new) (IsStoredIn 2 e serial))
   -- at every exit a crash leaves version 1 or version 2, whole
-  pub crash : IsFalse (needs_reopen old) → version_in old ≡ 1 → MayMigrate (state g old) e serial
-      → Leaves (state g new) (IsStoredWhole e serial)
+  pub crash : IsFalse (needs_reopen old) → store_version old ≡ 1 → IsVersion1Alone (store_state g old) e serial
+      → AfterCrash (store_state g new) (IsStoredWhole e serial)

@@ -130,15 +130,15 @@ pub record IsStoredIn (version : ℕ) (e : EventValue) (serial : ℕ) (trees : T
   pub represents : RepresentsIn version (record { schema = schema; trees = trees }) e serial
 
 -- the connection sees the event in this version, with nothing pending
-pub record Shows (version : ℕ) (s : State) (e : EventValue) (serial : ℕ) : Type 0 where
+pub record RepresentsNow (version : ℕ) (s : State) (e : EventValue) (serial : ℕ) : Type 0 where
   pub is_open : IsTrue s.is_open
   pub sound : IsDatabase s.now
   pub settled : s.now ≡ s.committed
   pub represents : RepresentsIn version s.now e serial
 
 -- each thing that a crash may leave
-abbrev pub Leaves : State → (Trees → Type 0) → Type 0
-Leaves s P = HasCleanDisk s → (trees : Trees) → s.may_leave trees → P trees
+abbrev pub AfterCrash : State → (Trees → Type 0) → Type 0
+AfterCrash s P = HasCleanDisk s → (trees : Trees) → s.may_leave trees → P trees
 
 abbrev pub Either : (Trees → Type 0) → (Trees → Type 0) → Trees → Type 0
 Either P Q trees = P trees ⊎ Q trees

@@ -9,13 +9,12 @@ use Rattle.er_event.specs.declared.rows.pairing.PairingRow.{PairingRow}
 use Rattle.er_event.specs.declared.rows.bracket.BracketRow.{BracketRow}
 use Rattle.er_event.specs.declared.rows.tally.TallyRow.{TallyRow}
 use Rattle.er_event.specs.Event.{EventValue}
-use Rattle.er_store.specs.declared.rows.MeetingRow.{MeetingRow}
 use Rattle.er_store.specs.declared.rows.NamedPairing.{NamedPairing}
 use Rattle.er_event.specs.Rows.{flag, phase_code}
 use Rattle.er_store.specs.Layout.{Layout, Old, New, Moved}
 
-abbrev pub number : ℕ → Value
-number n = Int (pos n)
+abbrev pub number_value : ℕ → Value
+number_value n = Int (pos n)
 
 -- id, version, serial, name, rounds, cut, phase
 abbrev pub event_columns : EventRow → Row
@@ -36,10 +35,6 @@ bracket_columns r = Int r.stage ∷ Int r.slot ∷ Int r.a ∷ Int r.b ∷ Int r
 -- no, points, rounds, gamepoints, games
 abbrev pub tally_columns : TallyRow → Row
 tally_columns r = Int r.no ∷ Int r.points ∷ Int r.rounds ∷ Int r.gamepoints ∷ Int r.games ∷ []
-
--- round, tab, done, and the totals of lo and hi
-abbrev pub meeting_columns : MeetingRow → Row
-meeting_columns r = Int r.round ∷ Int r.tab ∷ Int r.done ∷ tally_columns r.lo ++ tally_columns r.hi
 
 abbrev pub text_or_null : Option (List ℕ) → Value
 text_or_null None = Null
@@ -64,7 +59,7 @@ player2_places = 0 ∷ 2 ∷ 3 ∷ 4 ∷ []
 
 -- what is read of a stored player: version 1 doesn't store when one joined, and nobody has joined late in it
 abbrev pub player_shown : Layout → Row → Row
-player_shown Old row = at_places player_places row ++ number 0 ∷ []
+player_shown Old row = at_places player_places row ++ number_value 0 ∷ []
 player_shown New row = at_places player2_places row
 player_shown Moved row = at_places player2_places row
 
@@ -80,14 +75,14 @@ tally_places = 0 ∷ 2 ∷ 3 ∷ 4 ∷ 5 ∷ []
 -- the row of the event as it is stored, with NULL in the column that is the rowid
 abbrev pub stored_event : ℕ → EventValue → ℕ → Row
 stored_event version e serial =
-    number 1 ∷ Null ∷ number version ∷ number serial ∷ Text e.name ∷ number e.rounds ∷ number e.cut
-    ∷ number (phase_code e.phase) ∷ []
+    number_value 1 ∷ Null ∷ number_value version ∷ number_value serial ∷ Text e.name ∷ number_value e.rounds ∷ number_value e.cut
+    ∷ number_value (phase_code e.phase) ∷ []
 
 abbrev pub stored_player : ℕ → List ℕ → Bool → Row
-stored_player number name dropped = Int (pos number) ∷ Null ∷ Text name ∷ Int (flag dropped) ∷ []
+stored_player number_value name dropped = Int (pos number_value) ∷ Null ∷ Text name ∷ Int (flag dropped) ∷ []
 
 abbrev pub stored_player2 : ℕ → List ℕ → Bool → ℕ → Row
-stored_player2 number name dropped joined = Int (pos number) ∷ Null ∷ Text name ∷ Int (flag dropped) ∷ Int (pos joined) ∷ []
+stored_player2 number_value name dropped joined = Int (pos number_value) ∷ Null ∷ Text name ∷ Int (flag dropped) ∷ Int (pos joined) ∷ []
 
 abbrev pub stored_tally : TallyRow → Row
 stored_tally r = Int r.no ∷ Null ∷ Int r.points ∷ Int r.rounds ∷ Int r.gamepoints ∷ Int r.games ∷ []

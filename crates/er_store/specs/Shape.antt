@@ -12,7 +12,7 @@ use Rattle.er_event.specs.declared.rows.pairing.PairingRow.{PairingRow}
 use Rattle.er_event.specs.declared.rows.bracket.BracketRow.{BracketRow}
 use Rattle.er_event.specs.declared.rows.tally.TallyRow.{TallyRow}
 use Rattle.er_store.specs.Layout.{Layout, players_tree}
-use Rattle.er_store.specs.Tables.{event_tree, pairing_tree, bracket_tree, tally_tree, read_event, players_text, read_pairings}
+use Rattle.er_store.specs.Tables.{event_tree, pairing_tree, bracket_tree, tally_tree, read_event, read_players_of, read_pairings}
 use Rattle.er_store.specs.Tables.{read_bracket, read_tallies}
 use Rattle.er_store.specs.Rows.{event_columns, player_columns, pairing_columns, bracket_columns, tally_columns, at_places, event_places}
 use Rattle.er_store.specs.Rows.{player_shown, pairing_places, bracket_places, tally_places}
@@ -61,7 +61,7 @@ event_table = record {
 abbrev pub player_table : Shape PlayerRow
 player_table = record {
   place = PlayerTable;
-  read = players_text;
+  read = read_players_of;
   tree = players_tree;
   shown = player_shown;
   order = by_first;

@@ -20,26 +20,26 @@ abbrev pub Side : Type 0
 Side = Option (ℕ × List ℕ)
 
 -- 0 for nobody
-abbrev pub number_in : Side → ℕ
-number_in who = unwrap_or (option_map (λ (s : ℕ × List ℕ). s.0) who) 0
+abbrev pub number_of_side : Side → ℕ
+number_of_side who = unwrap_or (option_map (λ (s : ℕ × List ℕ). s.0) who) 0
 
-abbrev pub name_in : Side → Option (List ℕ)
-name_in who = option_map (λ (s : ℕ × List ℕ). s.1) who
+abbrev pub name_of_side : Side → Option (List ℕ)
+name_of_side who = option_map (λ (s : ℕ × List ℕ). s.1) who
 
 -- the match that the slip is of
 abbrev pub match_of_slip : SlipRow → Match
-match_of_slip slip = record { a = slip.first.0; b = number_in slip.second; score = slip.score }
+match_of_slip slip = record { a = slip.first.0; b = number_of_side slip.second; score = slip.score }
 
 -- the first-named player is the one with the higher number
 abbrev pub is_swapped : SlipRow → Bool
-is_swapped slip = nat_lt (number_in slip.second) slip.first.0
+is_swapped slip = nat_lt (number_of_side slip.second) slip.first.0
 
 -- the pairing of this slip, with the names of its players
 abbrev pub named_pairing : SlipRow → NamedPairing
 named_pairing slip = record {
   pairing = pairing_row slip.round (slip.table, match_of_slip slip);
-  lo_name = if is_swapped slip then name_in slip.second else Some slip.first.1;
-  hi_name = if is_swapped slip then Some slip.first.1 else name_in slip.second;
+  lo_name = if is_swapped slip then name_of_side slip.second else Some slip.first.1;
+  hi_name = if is_swapped slip then Some slip.first.1 else name_of_side slip.second;
 }
 
 -- what is read of a round and a table of an event
@@ -50,7 +50,7 @@ abbrev pub IsPlayer : ℕ × List ℕ → Type 0
 IsPlayer s = (1 ≤ s.0) × (s.0 ≤ MAX_PLAYERS) × IsTrue (is_lawful_name s.1)
 
 -- a slip that the formats allow
-pub record IsLawful (slip : SlipRow) : Type 0 where
+pub record IsLawfulSlip (slip : SlipRow) : Type 0 where
   pub played : MayStand slip.table (match_of_slip slip)
   pub first : IsPlayer slip.first
   pub second : IfSome slip.second IsPlayer

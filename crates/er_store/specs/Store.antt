@@ -11,12 +11,12 @@ abbrev pub connection : {S : Type 0} {g : Ghosts S} → Store S g → Held S
 connection store = store.conn
 
 -- what its connection shows
-abbrev pub state : {S : Type 0} (g : Ghosts S) → Store S g → State
-state g store = sqlite.state g (connection store)
+abbrev pub store_state : {S : Type 0} (g : Ghosts S) → Store S g → State
+store_state g store = sqlite.state g (connection store)
 
 -- the version that it works in
-abbrev pub version_in : {S : Type 0} {g : Ghosts S} → Store S g → ℕ
-version_in store = store.version
+abbrev pub store_version : {S : Type 0} {g : Ghosts S} → Store S g → ℕ
+store_version store = store.version
 
 -- a fault has ended it
 abbrev pub needs_reopen : {S : Type 0} {g : Ghosts S} → Store S g → Bool

@@ -12,38 +12,38 @@ use Rattle.sqlite_sql.specs.declared.ops.CompareOp.TheVariants.{Eq, Lt}
 use Rattle.sqlite_schema.specs.declared.schema.Column.{Column}
 use Rattle.sqlite_schema.specs.declared.schema.Index.{Index}
 
-abbrev pub event_text : List ℕ
-event_text = codes "CREATE TABLE event(id INTEGER PRIMARY KEY CHECK(id = 1), version INTEGER NOT NULL, serial INTEGER NOT NULL, name TEXT NOT NULL, rounds INTEGER NOT NULL, cut INTEGER NOT NULL, phase INTEGER NOT NULL)"
+abbrev pub create_event : List ℕ
+create_event = codes "CREATE TABLE event(id INTEGER PRIMARY KEY CHECK(id = 1), version INTEGER NOT NULL, serial INTEGER NOT NULL, name TEXT NOT NULL, rounds INTEGER NOT NULL, cut INTEGER NOT NULL, phase INTEGER NOT NULL)"
 
-abbrev pub player_text : List ℕ
-player_text = codes "CREATE TABLE player(no INTEGER PRIMARY KEY, name TEXT NOT NULL UNIQUE, dropped INTEGER NOT NULL)"
+abbrev pub create_player : List ℕ
+create_player = codes "CREATE TABLE player(no INTEGER PRIMARY KEY, name TEXT NOT NULL UNIQUE, dropped INTEGER NOT NULL)"
 
-abbrev pub player2_text : List ℕ
-player2_text = codes "CREATE TABLE player2(no INTEGER PRIMARY KEY, name TEXT NOT NULL UNIQUE, dropped INTEGER NOT NULL, joined INTEGER NOT NULL)"
+abbrev pub create_player2 : List ℕ
+create_player2 = codes "CREATE TABLE player2(no INTEGER PRIMARY KEY, name TEXT NOT NULL UNIQUE, dropped INTEGER NOT NULL, joined INTEGER NOT NULL)"
 
-abbrev pub pairing_text : List ℕ
-pairing_text = codes "CREATE TABLE pairing(round INTEGER NOT NULL, tab INTEGER NOT NULL, lo INTEGER NOT NULL, hi INTEGER NOT NULL, swapped INTEGER NOT NULL, done INTEGER NOT NULL, x INTEGER NOT NULL, y INTEGER NOT NULL, d INTEGER NOT NULL, PRIMARY KEY(round, tab), UNIQUE(lo, hi), CHECK(lo < hi))"
+abbrev pub create_pairing : List ℕ
+create_pairing = codes "CREATE TABLE pairing(round INTEGER NOT NULL, tab INTEGER NOT NULL, lo INTEGER NOT NULL, hi INTEGER NOT NULL, swapped INTEGER NOT NULL, done INTEGER NOT NULL, x INTEGER NOT NULL, y INTEGER NOT NULL, d INTEGER NOT NULL, PRIMARY KEY(round, tab), UNIQUE(lo, hi), CHECK(lo < hi))"
 
-abbrev pub bracket_text : List ℕ
-bracket_text = codes "CREATE TABLE bracket(stage INTEGER NOT NULL, slot INTEGER NOT NULL, a INTEGER NOT NULL, b INTEGER NOT NULL, done INTEGER NOT NULL, x INTEGER NOT NULL, y INTEGER NOT NULL, d INTEGER NOT NULL, PRIMARY KEY(stage, slot))"
+abbrev pub create_bracket : List ℕ
+create_bracket = codes "CREATE TABLE bracket(stage INTEGER NOT NULL, slot INTEGER NOT NULL, a INTEGER NOT NULL, b INTEGER NOT NULL, done INTEGER NOT NULL, x INTEGER NOT NULL, y INTEGER NOT NULL, d INTEGER NOT NULL, PRIMARY KEY(stage, slot))"
 
-abbrev pub tally_text : List ℕ
-tally_text = codes "CREATE TABLE tally(no INTEGER PRIMARY KEY, points INTEGER NOT NULL, rounds INTEGER NOT NULL, gamepoints INTEGER NOT NULL, games INTEGER NOT NULL)"
+abbrev pub create_tally : List ℕ
+create_tally = codes "CREATE TABLE tally(no INTEGER PRIMARY KEY, points INTEGER NOT NULL, rounds INTEGER NOT NULL, gamepoints INTEGER NOT NULL, games INTEGER NOT NULL)"
 
 abbrev pub plain : List ℕ → Kind → Bool → Column
 plain name kind not_null = record { name = name; kind = kind; is_strict = false; not_null = not_null; default = Null; collation = Binary }
 
 -- a NOT NULL column of integers
-abbrev pub number : List ℕ → Column
-number name = plain name Integer true
+abbrev pub number_column : List ℕ → Column
+number_column name = plain name Integer true
 
 abbrev pub event : ℕ → Table
 event tree = record {
   name = codes "event";
   tree = tree;
   columns =
-      plain (codes "id") Integer false ∷ number (codes "version") ∷ number (codes "serial")
-      ∷ plain (codes "name") Text true ∷ number (codes "rounds") ∷ number (codes "cut") ∷ number (codes "phase") ∷ [];
+      plain (codes "id") Integer false ∷ number_column (codes "version") ∷ number_column (codes "serial")
+      ∷ plain (codes "name") Text true ∷ number_column (codes "rounds") ∷ number_column (codes "cut") ∷ number_column (codes "phase") ∷ [];
   key = Some 0;
   primary = 0 ∷ [];
   uniques = [];
@@ -59,7 +59,7 @@ abbrev pub player : ℕ → Table
 player tree = record {
   name = codes "player";
   tree = tree;
-  columns = plain (codes "no") Integer false ∷ plain (codes "name") Text true ∷ number (codes "dropped") ∷ [];
+  columns = plain (codes "no") Integer false ∷ plain (codes "name") Text true ∷ number_column (codes "dropped") ∷ [];
   key = Some 0;
   primary = 0 ∷ [];
   uniques = (2 ∷ []) ∷ [];
@@ -76,7 +76,7 @@ player2 tree = record {
   name = codes "player2";
   tree = tree;
   columns =
-      plain (codes "no") Integer false ∷ plain (codes "name") Text true ∷ number (codes "dropped") ∷ number (codes "joined") ∷ [];
+      plain (codes "no") Integer false ∷ plain (codes "name") Text true ∷ number_column (codes "dropped") ∷ number_column (codes "joined") ∷ [];
   key = Some 0;
   primary = 0 ∷ [];
   uniques = (2 ∷ []) ∷ [];
@@ -97,8 +97,8 @@ pairing tree = record {
   name = codes "pairing";
   tree = tree;
   columns =
-      number (codes "round") ∷ number (codes "tab") ∷ number (codes "lo") ∷ number (codes "hi")
-      ∷ number (codes "swapped") ∷ number (codes "done") ∷ number (codes "x") ∷ number (codes "y") ∷ number (codes "d")
+      number_column (codes "round") ∷ number_column (codes "tab") ∷ number_column (codes "lo") ∷ number_column (codes "hi")
+      ∷ number_column (codes "swapped") ∷ number_column (codes "done") ∷ number_column (codes "x") ∷ number_column (codes "y") ∷ number_column (codes "d")
       ∷ [];
   key = None;
   primary = 1 ∷ 2 ∷ [];
@@ -116,8 +116,8 @@ bracket tree = record {
   name = codes "bracket";
   tree = tree;
   columns =
-      number (codes "stage") ∷ number (codes "slot") ∷ number (codes "a") ∷ number (codes "b") ∷ number (codes "done")
-      ∷ number (codes "x") ∷ number (codes "y") ∷ number (codes "d") ∷ [];
+      number_column (codes "stage") ∷ number_column (codes "slot") ∷ number_column (codes "a") ∷ number_column (codes "b") ∷ number_column (codes "done")
+      ∷ number_column (codes "x") ∷ number_column (codes "y") ∷ number_column (codes "d") ∷ [];
   key = None;
   primary = 1 ∷ 2 ∷ [];
   uniques = (1 ∷ 2 ∷ []) ∷ [];
@@ -134,8 +134,8 @@ tally tree = record {
   name = codes "tally";
   tree = tree;
   columns =
-      plain (codes "no") Integer false ∷ number (codes "points") ∷ number (codes "rounds") ∷ number (codes "gamepoints")
-      ∷ number (codes "games") ∷ [];
+      plain (codes "no") Integer false ∷ number_column (codes "points") ∷ number_column (codes "rounds") ∷ number_column (codes "gamepoints")
+      ∷ number_column (codes "games") ∷ [];
   key = Some 0;
   primary = 0 ∷ [];
   uniques = [];
@@ -303,10 +303,6 @@ read_bracket = codes "SELECT stage, slot, a, b, done, x, y, d FROM bracket ORDER
 abbrev pub read_tallies : List ℕ
 read_tallies = codes "SELECT no, points, rounds, gamepoints, games FROM tally ORDER BY no"
 
--- the matches of two players, with the totals of the two
-abbrev pub read_meetings : List ℕ
-read_meetings = codes "SELECT p.round, p.tab, p.done, l.no, l.points, l.rounds, l.gamepoints, l.games, h.no, h.points, h.rounds, h.gamepoints, h.games FROM pairing AS p LEFT JOIN tally AS l ON l.no = p.lo LEFT JOIN tally AS h ON h.no = p.hi WHERE p.lo > 0 ORDER BY p.round, p.tab"
-
 -- the match of a round and a table, with the names of its players; a bye has none for the missing one
 abbrev pub read_slip : List ℕ
 read_slip = codes "SELECT p.round, p.tab, p.lo, p.hi, p.swapped, p.done, p.x, p.y, p.d, l.name, h.name FROM pairing AS p LEFT JOIN player AS l ON l.no = p.lo LEFT JOIN player AS h ON h.no = p.hi WHERE p.round = ?1 AND p.tab = ?2"
@@ -315,8 +311,8 @@ abbrev pub read_slip2 : List ℕ
 read_slip2 = codes "SELECT p.round, p.tab, p.lo, p.hi, p.swapped, p.done, p.x, p.y, p.d, l.name, h.name FROM pairing AS p LEFT JOIN player2 AS l ON l.no = p.lo LEFT JOIN player2 AS h ON h.no = p.hi WHERE p.round = ?1 AND p.tab = ?2"
 
 -- the statements that read players, in tables of a version
-abbrev pub players_text : ℕ → List ℕ
-players_text version = if version == 2 then read_players2 else read_players
+abbrev pub read_players_of : ℕ → List ℕ
+read_players_of version = if version == 2 then read_players2 else read_players
 
-abbrev pub slip_text : ℕ → List ℕ
-slip_text version = if version == 2 then read_slip2 else read_slip
+abbrev pub read_slip_of : ℕ → List ℕ
+read_slip_of version = if version == 2 then read_slip2 else read_slip

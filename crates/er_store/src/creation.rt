@@ -4,7 +4,7 @@ ghost use Rattle.er_event.specs.Event.{EventValue};
 ghost use Rattle.er_store.specs.Tables.{player_tree, event, player, player2, players_of, pairing, bracket, tally, no_schema, event_schema};
 ghost use Rattle.er_store.specs.Tables.{player_schema, pairing_schema, bracket_schema, tally_schema};
 ghost use Rattle.er_store.specs.inside.Steps.{made_players, CreatesAll};
-ghost use Rattle.er_store.specs.inside.Within.{shown, Lends, Achieves, MakesNext};
+ghost use Rattle.er_store.specs.inside.Within.{tx_state, Lends, Achieves, MakesNext};
 ghost use Rattle.er_store.specs.inside.Making.{MakesFive};
 ghost use Rattle.er_store.specs.inside.Moving.{MayMove, IsMoving};
 ghost use Rattle.er_store.specs.Migrated.{IsTaken};
@@ -43,10 +43,10 @@ pub fn create_player2<S: Alter>(tx: &mut Transaction<'_, S>) -> Result<(), Error
     ensures lends { Lends S.Store tx.old tx.new }
     ensures makes { MakesNext S.Store player2 event_schema (player_schema (player2 player_tree))
         tx.old result tx.new }
-    ensures moves { (e : EventValue) (s : ℕ) → MayMove (shown S.Store tx.old) e s
+    ensures moves { (e : EventValue) (s : ℕ) → MayMove (tx_state S.Store tx.old) e s
         → Achieves S.Store (λ a b. IsMoving a b 1 [] e s (a.now.trees player_tree)) tx.old result
         tx.new }
-    ensures taken { HasCleanDisk (shown S.Store tx.new) → IsTaken (shown S.Store tx.old).now
+    ensures taken { HasCleanDisk (tx_state S.Store tx.new) → IsTaken (tx_state S.Store tx.old).now
         → IsErr result }
 {
     run(tx, CREATE_PLAYER2, &[])
@@ -107,7 +107,7 @@ fn create_players<S: Alter>(tx: &mut Transaction<'_, S>, version: u8) -> Result<
 /// Makes the five tables as this version has them.
 pub fn create_all<S: Alter>(tx: &mut Transaction<'_, S>, version: u8) -> Result<(), Error>
     ensures lends { Lends S.Store tx.old tx.new }
-    ensures creates { (shown S.Store tx.old).now.schema ≡ no_schema
+    ensures creates { (tx_state S.Store tx.old).now.schema ≡ no_schema
         → Achieves S.Store (CreatesAll (made_players version)) tx.old result tx.new }
     ensures beside { Achieves S.Store (MakesFive version) tx.old result tx.new }
 {

@@ -1,5 +1,5 @@
 ghost use Rattle.std.specs.Prelude.{◌≡◌};
-ghost use Rattle.er_store.specs.Fault.{refusal_of, IsFault};
+ghost use Rattle.er_store.specs.Fault.{store_refusal, IsFault};
 
 use er_event::{Cause, Refusal};
 use sqlite::{Error, ErrorCode};
@@ -11,7 +11,7 @@ pub const BAD_ROW: Refusal = Refusal::Store {
 
 /// What a refusal of the database means to a caller.
 pub fn refusal_of(error: Error) -> Refusal
-    ensures value { result ≡ refusal_of error }
+    ensures value { result ≡ store_refusal error }
     ensures fault { IsFault result }
 {
     match error {

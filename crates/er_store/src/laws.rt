@@ -4,7 +4,7 @@ ghost use Rattle.std.specs.Prelude.{ℕ, ◌≡◌, false, IsTrue};
 ghost use Rattle.sqlite.specs.Effect.{Database, IsDatabase};
 ghost use Rattle.sqlite.specs.Held.{state};
 ghost use Rattle.er_event.specs.Event.{EventValue};
-ghost use Rattle.er_store.specs.Representing.{RepresentsIn, IsStoredIn, Shows, Leaves};
+ghost use Rattle.er_store.specs.Representing.{RepresentsIn, IsStoredIn, RepresentsNow, AfterCrash};
 ghost use Rattle.er_store.specs.Store as tables;
 
 use crate::Store;
@@ -12,8 +12,9 @@ use sqlite::{Alter, Connection};
 
 /// While its tables represent an event in a version, with nothing pending, each thing that a crash may leave represents it in that version.
 pub fn shown_is_stored<S: Alter>(store: &Store<S>)
-    ensures { (v : ℕ) (e : EventValue) (s : ℕ) → Shows v (tables.state S.Store store.now) e s
-        → Leaves (tables.state S.Store store.now) (IsStoredIn v e s) }
+    ensures { (v : ℕ) (e : EventValue) (s : ℕ)
+        → RepresentsNow v (tables.store_state S.Store store.now) e s
+        → AfterCrash (tables.store_state S.Store store.now) (IsStoredIn v e s) }
 {}
 
 /// What a crash left of an event represents it again, in the version that it was in, whatever schema is read of it.

@@ -54,10 +54,10 @@ impl<S: Alter> Store<S> {
     ghost use Rattle.er_store.specs.Store as store;
     ghost use Rattle.er_store.specs.{Begins.{Creates, Adopts}};
     ghost use Rattle.er_store.specs.{Calls.{OnlyReads, Finds, OrFails, WritesChange, StopsByReadFault, StopsUnless}};
-    ghost use Rattle.er_store.specs.Store.{connection, needs_reopen, version_in};
+    ghost use Rattle.er_store.specs.Store.{connection, needs_reopen, store_version};
     ghost use Rattle.er_store.specs.Fault.{FaultOrDamage};
     ghost use Rattle.er_store.specs.Damage.{FindsEvent};
-    ghost use Rattle.er_store.specs.Slip.{IsLawful, FindsSlipOrFails};
+    ghost use Rattle.er_store.specs.Slip.{IsLawfulSlip, FindsSlipOrFails};
     ghost use Rattle.er_store.specs.Damage.{IsAtFault, IfDamaged};
 
     /// Makes the tables of a new event in this version, with serial 0.
@@ -141,7 +141,7 @@ impl<S: Alter> Store<S> {
     /// Writes the change and the next serial in one transaction. The serial is the event's.
     pub fn write(&mut self, event: &Event, change: &Change, serial: u32) -> Result<(), Refusal>
         requires fits { Fits event.now change.now }
-        requires takes { CanTake (version_in self.old) event.now change.now }
+        requires takes { CanTake (store_version self.old) event.now change.now }
         requires low { serial < MAX_SERIAL }
         ensures { WritesChange S.Store event.now (after event.now change.now) serial self.old result
             self.new }
@@ -170,15 +170,16 @@ impl<S: Alter> Store<S> {
 
         // Whatever the tables hold, what is found is what they show, in the version that the event's row has. Where they are ours, they
         // represent it.
-        ensures shows { HasCleanDisk (store.state S.Store self.new)
+        ensures shows { HasCleanDisk (store.store_state S.Store self.new)
             → IfOk result (λ it. (version : ℕ) × IsVersion version
-            × FindsEvent version (store.state S.Store self.old) (store.state S.Store self.new) it.0
+            × FindsEvent version (store.store_state S.Store self.old)
+            (store.store_state S.Store self.new) it.0
             it.1) }
 
         // A damaged table that is named is the first at fault. So it is the event's where the event's rows can't be read, which `adopt`
         // answers by `NoEvent`.
-        ensures first { HasCleanDisk (store.state S.Store self.new)
-            → IfErr result (IfDamaged (IsAtFault (store.state S.Store self.old).now)) }
+        ensures first { HasCleanDisk (store.store_state S.Store self.new)
+            → IfErr result (IfDamaged (IsAtFault (store.store_state S.Store self.old).now)) }
     {
         if self.needs_reopen {
             return Err(Refusal::NeedsReopen);
@@ -197,14 +198,16 @@ impl<S: Alter> Store<S> {
             self.new }
 
         // Of tables in its version it is the event's slip, or there is no such match.
-        ensures found { Finds S.Store (RepresentsIn (version_in self.old))
+        ensures found { Finds S.Store (RepresentsIn (store_version self.old))
             (λ e s. FindsSlipOrFails e round table) self.old result self.new }
 
         // Whatever the tables hold, it is a slip that the format allows, and that there is no such match changes nothing too.
         ensures allowed { IfOk result (λ slip. (slip.round ≡ round) × (slip.table ≡ table)
-            × IsLawful slip) }
-        ensures same { HasCleanDisk (store.state S.Store self.new) → IsFalse (needs_reopen self.new)
-            → IsUnchanged (store.state S.Store self.old) (store.state S.Store self.new) }
+            × IsLawfulSlip slip) }
+        ensures same { HasCleanDisk (store.store_state S.Store self.new)
+            → IsFalse (needs_reopen self.new)
+            → IsUnchanged (store.store_state S.Store self.old)
+            (store.store_state S.Store self.new) }
     {
         if self.needs_reopen {
             return Err(Refusal::NeedsReopen);
@@ -219,7 +222,7 @@ impl<S: Alter> Store<S> {
     pub fn tallies(&mut self, alloc: Global) -> Result<Vec<Tally>, Refusal>
         ensures reads { OnlyReads S.Store StopsByReadFault self.old result self.new }
         // Of tables in its version these are the event's tallies.
-        ensures found { Finds S.Store (RepresentsIn (version_in self.old))
+        ensures found { Finds S.Store (RepresentsIn (store_version self.old))
             (λ e s. OrFails (λ list. list.items ≡ tallies e)) self.old result self.new }
     {
         if self.needs_reopen {
@@ -241,7 +244,7 @@ impl<S: Alter> Store<S> {
         if self.needs_reopen {
             return Err(Refusal::NeedsReopen);
         }
-        let read = find_meetings(alloc, &mut self.conn);
+        let read = find_meetings(alloc, &mut self.conn, self.version);
         self.needs_reopen = read.is_err();
         read
     }
@@ -271,7 +274,7 @@ impl<S: Alter> Store<S> {
 
     /// The version in which the tables are kept: 1 or 2. A store that a fault has ended tells it too.
     pub fn version(&self) -> u8
-        ensures value { result ≡ version_in self.now }
+        ensures value { result ≡ store_version self.now }
         ensures known { IsVersion result }
     {
         self.version
@@ -288,7 +291,7 @@ impl<S: Alter> Store<S> {
     fn stop(&mut self)
         ensures needs_reopen { IsTrue (needs_reopen self.new) }
         ensures same { connection self.new ≡ connection self.old }
-        ensures version { version_in self.new ≡ version_in self.old }
+        ensures version { store_version self.new ≡ store_version self.old }
     {
         self.needs_reopen = true;
     }
@@ -298,7 +301,7 @@ impl<S: Alter> Store<S> {
         ensures refusal { result ≡ Refusal.Store BadRow }
         ensures needs_reopen { IsTrue (needs_reopen self.new) }
         ensures same { connection self.new ≡ connection self.old }
-        ensures version { version_in self.new ≡ version_in self.old }
+        ensures version { store_version self.new ≡ store_version self.old }
     {
         self.stop();
         BAD_ROW

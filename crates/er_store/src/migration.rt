@@ -6,11 +6,11 @@ ghost use Rattle.sqlite.specs.Order.{Row};
 ghost use Rattle.sqlite.specs.Held.{state};
 ghost use Rattle.er_event.specs.declared.players.Player.{Player};
 ghost use Rattle.er_event.specs.Event.{EventValue};
-ghost use Rattle.er_store.specs.Migrated.{MayMigrate, IsMigrated, IsStoredWhole, IsTaken};
-ghost use Rattle.er_store.specs.Representing.{Leaves, IsStoredIn, Shows};
+ghost use Rattle.er_store.specs.Migrated.{IsVersion1Alone, IsMigrated, IsStoredWhole, IsTaken};
+ghost use Rattle.er_store.specs.Representing.{AfterCrash, IsStoredIn, RepresentsNow};
 ghost use Rattle.er_store.specs.inside.Moving.{HaveNumbers, IsMoving, IsMoved, MayMove};
 ghost use Rattle.er_store.specs.inside.Looking.{Transacts};
-ghost use Rattle.er_store.specs.inside.Within.{shown, Lends, Achieves, Inside};
+ghost use Rattle.er_store.specs.inside.Within.{tx_state, Lends, Achieves, Inside};
 
 use crate::creation::create_player2;
 use crate::statements::{insert_player2, run};
@@ -21,7 +21,7 @@ use sqlite::{Alter, Connection, Error, Transaction, params};
 fn copy_players<S: Alter>(tx: &mut Transaction<'_, S>, event: &Event) -> Result<(), Error>
     ensures lends { Lends S.Store tx.old tx.new }
     ensures copies { (e : EventValue) (s : ℕ) (former : List Row)
-        → IsMoving (shown S.Store tx.old) (shown S.Store tx.old) 1 [] e s former
+        → IsMoving (tx_state S.Store tx.old) (tx_state S.Store tx.old) 1 [] e s former
         → Achieves S.Store (λ a b. IsMoving a b 1 event.now.players e s former) tx.old result tx.new }
 {
     for player in event.players() {
@@ -39,7 +39,7 @@ fn clear_players<S: Alter>(tx: &mut Transaction<'_, S>) -> Result<(), Error>
     ensures lends { Lends S.Store tx.old tx.new }
     ensures clears { (version : ℕ) (players : List Player) (e : EventValue) (s : ℕ)
         (former : List Row)
-        → IsMoving (shown S.Store tx.old) (shown S.Store tx.old) version players e s former
+        → IsMoving (tx_state S.Store tx.old) (tx_state S.Store tx.old) version players e s former
         → HaveNumbers former
         → Achieves S.Store (λ a b. IsMoving a b version players e s []) tx.old result tx.new }
 {
@@ -52,7 +52,7 @@ pub const SET_VERSION: &str = "UPDATE event SET version = ?1";
 fn set_version<S: Alter>(tx: &mut Transaction<'_, S>, version: u32) -> Result<(), Error>
     ensures lends { Lends S.Store tx.old tx.new }
     ensures sets { (was : ℕ) (players : List Player) (e : EventValue) (s : ℕ) (former : List Row)
-        → IsMoving (shown S.Store tx.old) (shown S.Store tx.old) was players e s former
+        → IsMoving (tx_state S.Store tx.old) (tx_state S.Store tx.old) was players e s former
         → Achieves S.Store (λ a b. IsMoving a b version players e s former) tx.old result tx.new }
     ensures inside { Achieves S.Store Inside tx.old result tx.new }
 {
@@ -62,9 +62,9 @@ fn set_version<S: Alter>(tx: &mut Transaction<'_, S>, version: u32) -> Result<()
 /// Moves the players to `player2`, and sets version 2.
 fn move_players<S: Alter>(tx: &mut Transaction<'_, S>, event: &Event) -> Result<(), Error>
     ensures lends { Lends S.Store tx.old tx.new }
-    ensures moves { (s : ℕ) → MayMove (shown S.Store tx.old) event.now s
+    ensures moves { (s : ℕ) → MayMove (tx_state S.Store tx.old) event.now s
         → Achieves S.Store (λ a b. IsMoved b event.now s) tx.old result tx.new }
-    ensures taken { HasCleanDisk (shown S.Store tx.new) → IsTaken (shown S.Store tx.old).now
+    ensures taken { HasCleanDisk (tx_state S.Store tx.new) → IsTaken (tx_state S.Store tx.old).now
         → IsErr result }
     ensures inside { Achieves S.Store Inside tx.old result tx.new }
 {
@@ -79,15 +79,15 @@ pub fn migrate_tables<S: Alter>(conn: &mut Connection<S>, event: &Event) -> Resu
     requires mode { conn.old.in_transaction ≡ false }
     ensures transacts { Transacts S.Store conn.old result conn.new }
     ensures migrated { HasCleanDisk (state S.Store conn.new) → (s : ℕ)
-        → MayMigrate (state S.Store conn.old) event.now s
+        → IsVersion1Alone (state S.Store conn.old) event.now s
         → OnOk result (IsMigrated (state S.Store conn.new) event.now s) }
-    ensures acknowledged { (s : ℕ) → MayMigrate (state S.Store conn.old) event.now s
-        → OnOk result (Leaves (state S.Store conn.new) (IsStoredIn 2 event.now s)) }
-    ensures crash { (s : ℕ) → MayMigrate (state S.Store conn.old) event.now s
-        → Leaves (state S.Store conn.new) (IsStoredWhole event.now s) }
+    ensures acknowledged { (s : ℕ) → IsVersion1Alone (state S.Store conn.old) event.now s
+        → OnOk result (AfterCrash (state S.Store conn.new) (IsStoredIn 2 event.now s)) }
+    ensures crash { (s : ℕ) → IsVersion1Alone (state S.Store conn.old) event.now s
+        → AfterCrash (state S.Store conn.new) (IsStoredWhole event.now s) }
     ensures taken { HasCleanDisk (state S.Store conn.new) → IsTaken (state S.Store conn.old).now
-        → IsErr result × ((s : ℕ) → Shows 1 (state S.Store conn.old) event.now s
-        → Leaves (state S.Store conn.new) (IsStoredIn 1 event.now s)) }
+        → IsErr result × ((s : ℕ) → RepresentsNow 1 (state S.Store conn.old) event.now s
+        → AfterCrash (state S.Store conn.new) (IsStoredIn 1 event.now s)) }
 {
     let mut tx = conn.transaction();
     move_players(&mut tx, event)?;

@@ -6,16 +6,15 @@ ghost use Rattle.er_event.specs.Sound.{IsSoundButForSeeds};
 ghost use Rattle.er_event.specs.declared.refusals.Place.{Place};
 ghost use Rattle.er_event.specs.declared.refusals.Refusal.{Refusal};
 ghost use Rattle.er_store.specs.Layout.{Layout, version_of};
-ghost use Rattle.er_store.specs.Representing.{Represents, RepresentsAt, RepresentsIn};
-ghost use Rattle.er_store.specs.Tables.{slip_text};
+ghost use Rattle.er_store.specs.Representing.{RepresentsAt, RepresentsIn};
+ghost use Rattle.er_store.specs.Tables.{read_slip_of};
 ghost use Rattle.er_store.specs.Damage.{IsMisreadAs};
 ghost use Rattle.er_store.specs.Fault.{reading_refusal, IsLoadFault};
 ghost use Rattle.er_store.specs.Slip.{named_pairings};
 ghost use Rattle.er_store.specs.inside.Looking.{OnlyLooks, FindsBy, FailsToRead};
 ghost use Rattle.er_store.specs.inside.Lookup.{IsOurs, FindsRows};
-ghost use Rattle.er_store.specs.inside.Meetings.{meeting_rows};
 
-use crate::rows::{MeetingRow, NamedPairing, push_row, typed_rows};
+use crate::rows::{NamedPairing, typed_rows};
 use crate::tables::TableRow;
 use er_event::{Cause, Place, Refusal};
 use sqlite::{Alter, Connection, Error, ErrorCode, params};
@@ -44,29 +43,6 @@ pub fn read_table<T: TableRow, S: Alter>(
     typed_rows(alloc, &rows)
 }
 
-pub const READ_MEETINGS: &str =
-    "SELECT p.round, p.tab, p.done, l.no, l.points, l.rounds, l.gamepoints, l.games, h.no, h.points, h.rounds, h.gamepoints, h.games FROM pairing AS p LEFT JOIN tally AS l ON l.no = p.lo LEFT JOIN tally AS h ON h.no = p.hi WHERE p.lo > 0 ORDER BY p.round, p.tab";
-
-/// The matches of two players by round and table, with the totals of the two, read one row at a time. A crash in it leaves what it could
-/// leave before.
-pub fn read_meetings<S: Alter>(
-    alloc: Global,
-    conn: &mut Connection<S>,
-) -> Result<Vec<MeetingRow>, Error>
-    ensures looks { OnlyLooks S.Store conn.old result conn.new }
-    ensures exact { FindsBy S.Store Represents
-        (λ e s read. IfOk read (λ rows. rows.items ≡ meeting_rows e)) conn.old result conn.new }
-    ensures refused { FindsBy S.Store Represents
-        (λ e s read. FailsToRead S.Store conn.old read conn.new) conn.old result conn.new }
-{
-    let mut meetings = Vec::new(alloc);
-    let mut rows = conn.query(READ_MEETINGS, &[])?;
-    while let Some(row) = rows.next()? {
-        push_row(&mut meetings, row)?;
-    }
-    Ok(meetings)
-}
-
 pub const READ_SLIP: &str =
     "SELECT p.round, p.tab, p.lo, p.hi, p.swapped, p.done, p.x, p.y, p.d, l.name, h.name FROM pairing AS p LEFT JOIN player AS l ON l.no = p.lo LEFT JOIN player AS h ON h.no = p.hi WHERE p.round = ?1 AND p.tab = ?2";
 
@@ -75,7 +51,7 @@ pub const READ_SLIP2: &str =
 
 /// The statement that reads a match with the names of its players, in tables of this version.
 fn slip_text(version: u8) -> &'static str
-    ensures { result.now ≡ slip_text version }
+    ensures { result.now ≡ read_slip_of version }
 {
     if version == 2 { READ_SLIP2 } else { READ_SLIP }
 }

@@ -4,7 +4,7 @@ ghost use Rattle.sqlite.specs.Held.{state};
 ghost use Rattle.er_event.specs.declared.slips.SlipRow.{SlipRow};
 ghost use Rattle.er_event.specs.Slip.{slip_of};
 ghost use Rattle.er_store.specs.Fault.{IsReadFault};
-ghost use Rattle.er_store.specs.Slip.{Side, number_in, name_in, named_pairing, IsPlayer, IsLawful, FindsSlipOrFails};
+ghost use Rattle.er_store.specs.Slip.{Side, number_of_side, name_of_side, named_pairing, IsPlayer, IsLawfulSlip, FindsSlipOrFails};
 ghost use Rattle.er_store.specs.inside.Looking.{OnlyLooks, FindsBy};
 ghost use Rattle.er_store.specs.Representing.{RepresentsIn};
 
@@ -17,10 +17,11 @@ use std::alloc::Global;
 
 /// Who has this number and this name: nobody has 0 and no name.
 fn side(number: u16, name: &Option<Items<u8>>) -> Option<Option<(PlayerNo, Name)>>
-    ensures value { IfSome result (λ who. (number ≡ number_in who) × (name.now ≡ name_in who)
+    ensures value { IfSome result
+        (λ who. (number ≡ number_of_side who) × (name.now ≡ name_of_side who)
         × IfSome who IsPlayer) }
-    ensures exact { (who : Side) → IfSome who IsPlayer → number ≡ number_in who
-        → name.now ≡ name_in who → result ≡ Some who }
+    ensures exact { (who : Side) → IfSome who IsPlayer → number ≡ number_of_side who
+        → name.now ≡ name_of_side who → result ≡ Some who }
 {
     match (PlayerNo::try_new(number), name) {
         (Some(number), Some(name)) => {
@@ -35,8 +36,8 @@ fn side(number: u16, name: &Option<Items<u8>>) -> Option<Option<(PlayerNo, Name)
 /// The slip that a row shows, where the format allows it.
 fn slip_of(round: u8, table: u16, row: &NamedPairing) -> Option<SlipRow>
     ensures value { IfSome result (λ slip. (row.now ≡ named_pairing slip) × (slip.round ≡ round)
-        × (slip.table ≡ table) × IsLawful slip) }
-    ensures exact { (slip : SlipRow) → IsLawful slip → slip.round ≡ round → slip.table ≡ table
+        × (slip.table ≡ table) × IsLawfulSlip slip) }
+    ensures exact { (slip : SlipRow) → IsLawfulSlip slip → slip.round ≡ round → slip.table ≡ table
         → row.now ≡ named_pairing slip → result ≡ Some slip }
 {
     let played = match_at_table(round, table, &row.pairing)?;
@@ -68,7 +69,7 @@ pub fn find_slip<S: Alter>(
     ensures found { FindsBy S.Store (RepresentsIn version) (λ e s. FindsSlipOrFails e round table)
         conn.old result conn.new }
     ensures allowed { IfOk result (λ slip. (slip.round ≡ round) × (slip.table ≡ table)
-        × IsLawful slip) }
+        × IsLawfulSlip slip) }
     ensures fault { IfErr result (λ why. (why ≡ Refusal.NoSuchMatch) ⊎ IsReadFault why) }
     ensures missed { HasCleanDisk (state S.Store conn.new) → IfErr result (λ why. why
         ≡ Refusal.NoSuchMatch

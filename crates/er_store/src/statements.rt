@@ -15,7 +15,7 @@ ghost use Rattle.er_store.specs.Tables as ours;
 ghost use Rattle.er_store.specs.Representing.{HasTablesAt, RepresentsWith};
 ghost use Rattle.er_store.specs.Layout.{Layout, Old, version_of, players_tree};
 ghost use Rattle.er_store.specs.inside.Steps.{Ran, Puts, BringsToWith};
-ghost use Rattle.er_store.specs.inside.Within.{shown, Lends, Achieves, Brings, Counts, Inside, HasPlayer};
+ghost use Rattle.er_store.specs.inside.Within.{tx_state, Lends, Achieves, Brings, Counts, Inside, HasPlayer};
 ghost use Rattle.er_store.specs.inside.Making.{IsFound};
 
 use er_event::{BracketRow, Event, Games, PairingRow, Phase, Score, TallyRow};
@@ -46,7 +46,7 @@ pub fn insert_player<S: Alter>(
 ) -> Result<(), Error>
     ensures lends { Lends S.Store tx.old tx.new }
     ensures puts { (at tree : ℕ)
-        → IsFound (shown S.Store tx.old).now.schema at (ours.player tree)
+        → IsFound (tx_state S.Store tx.old).now.schema at (ours.player tree)
         → Achieves S.Store (Puts tree (stored_player number name.now dropped)) tx.old result tx.new }
 {
     run(tx, INSERT_PLAYER, params![number, name, dropped])
@@ -64,7 +64,8 @@ pub fn insert_player2<S: Alter>(
     joined: u32,
 ) -> Result<(), Error>
     ensures lends { Lends S.Store tx.old tx.new }
-    ensures puts { (l : Layout) → version_of l ≡ 2 → HasTablesAt l (shown S.Store tx.old).now.schema
+    ensures puts { (l : Layout) → version_of l ≡ 2
+        → HasTablesAt l (tx_state S.Store tx.old).now.schema
         → Achieves S.Store (Puts (players_tree l) (stored_player2 number name.now dropped joined))
         tx.old result tx.new }
 {
@@ -83,7 +84,7 @@ pub fn insert_event<S: Alter>(
 ) -> Result<(), Error>
     ensures lends { Lends S.Store tx.old tx.new }
     ensures puts { (at tree : ℕ)
-        → IsFound (shown S.Store tx.old).now.schema at (ours.event tree)
+        → IsFound (tx_state S.Store tx.old).now.schema at (ours.event tree)
         → Achieves S.Store (Puts tree (stored_event version event.now serial)) tx.old result tx.new }
     ensures inside { Achieves S.Store Inside tx.old result tx.new }
 {
@@ -105,7 +106,7 @@ pub fn set_serial<S: Alter>(tx: &mut Transaction<'_, S>, serial: u32) -> Result<
     requires { serial ≤ MAX_SERIAL }
     ensures lends { Lends S.Store tx.old tx.new }
     ensures makes { (l : Layout) (e : EventValue) (s : ℕ) (t : List TallyRow)
-        → RepresentsWith l (shown S.Store tx.old).now e s t
+        → RepresentsWith l (tx_state S.Store tx.old).now e s t
         → Achieves S.Store (λ a b. BringsToWith l a b e serial t) tx.old result tx.new }
     ensures inside { Achieves S.Store Inside tx.old result tx.new }
 {

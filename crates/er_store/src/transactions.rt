@@ -20,11 +20,12 @@ ghost use Rattle.er_event.specs.declared.matches.Match.{Match};
 ghost use Rattle.er_store.specs.inside.Steps.{IsStage};
 ghost use Rattle.er_store.specs.Tables.{no_schema, tally_schema};
 ghost use Rattle.er_store.specs.Layout.{Layout, version_of};
-ghost use Rattle.er_store.specs.Representing.{RepresentsAt, IsStoredIn, IsNew, Shows, Leaves, Either, KeepsOthers, CanRead, ReadsEvent};
-ghost use Rattle.er_store.specs.Beside.{ShowsBeside, IsStoredBeside};
+ghost use Rattle.er_store.specs.Representing.{RepresentsAt, IsStoredIn, IsNew, RepresentsNow, AfterCrash, Either, KeepsOthers, CanRead};
+ghost use Rattle.er_store.specs.Representing.{ReadsEvent};
+ghost use Rattle.er_store.specs.Beside.{HoldsBeside, IsStoredBeside};
 ghost use Rattle.er_store.specs.inside.Making.{IsReadyBeside};
 ghost use Rattle.er_store.specs.inside.Steps.{made_players, Moves, BringsTo, IsReady};
-ghost use Rattle.er_store.specs.inside.Within.{shown, Lends, Achieves, Brings, Counts, Inside, HasPlayer};
+ghost use Rattle.er_store.specs.inside.Within.{tx_state, Lends, Achieves, Brings, Counts, Inside, HasPlayer};
 ghost use Rattle.er_store.specs.inside.Looking.{OnlyLooks, Transacts};
 
 use crate::creation::create_all;
@@ -226,7 +227,7 @@ fn recount_one<S: Alter>(
         → HasPlayer e player.now.no
         → (IsFalse (includes recount.now player.now)
         → before player.now.no ≡ gathered_of all.now player.now)
-        → Moves l (shown S.Store tx.old) (shown S.Store tx.old)
+        → Moves l (tx_state S.Store tx.old) (tx_state S.Store tx.old)
         → Counts S.Store l e (tally_rows_by before e.players)
         (tally_rows_by (set_for player.now.no (gathered_of all.now player.now) before) e.players)
         tx.old result tx.new }
@@ -246,7 +247,7 @@ fn recount<S: Alter>(
     requires fits { Fits event.now change.now }
     ensures lends { Lends S.Store tx.old tx.new }
     ensures makes { (l : Layout) (e : EventValue) → numbers e.players ≡ numbers event.now.players
-        → Moves l (shown S.Store tx.old) (shown S.Store tx.old)
+        → Moves l (tx_state S.Store tx.old) (tx_state S.Store tx.old)
         → Counts S.Store l e (tally_rows_by (totals event.now) e.players)
         (tally_rows_by (totals (after event.now change.now)) e.players) tx.old result tx.new }
 {
@@ -295,7 +296,7 @@ fn change_tables<S: Alter>(
     requires takes { CanTake version event.now change.now }
     ensures lends { Lends S.Store tx.old tx.new }
     ensures makes { (l : Layout) → version_of l ≡ version → (s : ℕ)
-        → RepresentsAt l (shown S.Store tx.old).now event.now s
+        → RepresentsAt l (tx_state S.Store tx.old).now event.now s
         → Achieves S.Store (λ a b. BringsTo l a b (after event.now change.now) s)
         tx.old result tx.new }
 {
@@ -323,7 +324,7 @@ fn change_event<S: Alter>(
     requires low { serial < MAX_SERIAL }
     ensures lends { Lends S.Store tx.old tx.new }
     ensures makes { (l : Layout) → version_of l ≡ version
-        → RepresentsAt l (shown S.Store tx.old).now event.now serial
+        → RepresentsAt l (tx_state S.Store tx.old).now event.now serial
         → Achieves S.Store (λ a b. BringsTo l a b (after event.now change.now) (serial + 1))
         tx.old result tx.new }
     ensures inside { Achieves S.Store Inside tx.old result tx.new }
@@ -346,15 +347,15 @@ pub fn write_tables<S: Alter>(
     requires mode { conn.old.in_transaction ≡ false }
     ensures transacts { Transacts S.Store conn.old result conn.new }
     ensures written { HasCleanDisk (state S.Store conn.new)
-        → Shows version (state S.Store conn.old) event.now serial
-        → OnOk result (Shows version (state S.Store conn.new) (after event.now change.now)
+        → RepresentsNow version (state S.Store conn.old) event.now serial
+        → OnOk result (RepresentsNow version (state S.Store conn.new) (after event.now change.now)
         (serial + 1)
         × KeepsOthers version (state S.Store conn.old).now (state S.Store conn.new).now) }
-    ensures acknowledged { Shows version (state S.Store conn.old) event.now serial
-        → OnOk result (Leaves (state S.Store conn.new)
+    ensures acknowledged { RepresentsNow version (state S.Store conn.old) event.now serial
+        → OnOk result (AfterCrash (state S.Store conn.new)
         (IsStoredIn version (after event.now change.now) (serial + 1))) }
-    ensures crash { Shows version (state S.Store conn.old) event.now serial
-        → Leaves (state S.Store conn.new)
+    ensures crash { RepresentsNow version (state S.Store conn.old) event.now serial
+        → AfterCrash (state S.Store conn.new)
         (Either (IsStoredIn version event.now serial)
         (IsStoredIn version (after event.now change.now) (serial + 1))) }
 {
@@ -373,7 +374,7 @@ fn make_event<S: Alter>(
     requires known { IsVersion version }
     requires keeps { Keeps version event.now }
     ensures lends { Lends S.Store tx.old tx.new }
-    ensures readies { (shown S.Store tx.old).now.schema ≡ no_schema
+    ensures readies { (tx_state S.Store tx.old).now.schema ≡ no_schema
         → Achieves S.Store (λ a b. IsReady version b event.now 0
         × (b.now.schema ≡ tally_schema (made_players version))) tx.old result tx.new }
     ensures beside { Achieves S.Store (IsReadyBeside version event.now) tx.old result tx.new }
@@ -396,17 +397,17 @@ pub fn create_tables<S: Alter>(
     ensures transacts { Transacts S.Store conn.old result conn.new }
     ensures created { HasCleanDisk (state S.Store conn.new)
         → (state S.Store conn.old).now.schema ≡ no_schema
-        → OnOk result (Shows version (state S.Store conn.new) event.now 0
+        → OnOk result (RepresentsNow version (state S.Store conn.new) event.now 0
         × ((state S.Store conn.new).now.schema ≡ tally_schema (made_players version))) }
     ensures acknowledged { (state S.Store conn.old).now.schema ≡ no_schema
-        → OnOk result (Leaves (state S.Store conn.new) (IsStoredIn version event.now 0)) }
+        → OnOk result (AfterCrash (state S.Store conn.new) (IsStoredIn version event.now 0)) }
     ensures crash { (state S.Store conn.old).now.schema ≡ no_schema
-        → Leaves (state S.Store conn.new)
+        → AfterCrash (state S.Store conn.new)
         (Either (state S.Store conn.old).may_leave (IsStoredIn version event.now 0)) }
     ensures beside { HasCleanDisk (state S.Store conn.new)
-        → OnOk result (ShowsBeside version event.now (state S.Store conn.old).now
+        → OnOk result (HoldsBeside version event.now (state S.Store conn.old).now
         (state S.Store conn.new)) }
-    ensures beside_crash { Leaves (state S.Store conn.new)
+    ensures beside_crash { AfterCrash (state S.Store conn.new)
         (Either (state S.Store conn.old).may_leave
         (IsStoredBeside version event.now (state S.Store conn.old).now)) }
 {

@@ -4,7 +4,8 @@ use Rattle.std.specs.Prelude.{codes}
 use Rattle.std.specs.List.{list_any}
 use Rattle.std.specs.Str.{bytes_eq}
 use Rattle.er_words.specs.declared.line.Line.{Line}
-use Rattle.er_words.specs.declared.line.Line.TheVariants.{Init, Enrol, Import, Start, Pair, Result as Report, Correct, Drop, Cut, Playoff}
+use Rattle.er_words.specs.declared.line.Line.TheVariants.{Init, Enrol, Import, Start, Pair, Result as ReportResult, Correct, Drop, Cut}
+use Rattle.er_words.specs.declared.line.Line.TheVariants.{Playoff}
 use Rattle.er_words.specs.declared.line.Line.TheVariants.{Standings, Players, Slips, Bracket, Export, Serve, Migrate}
 use Rattle.er_event.specs.declared.scores.Games.{Games}
 use Rattle.er_values.specs.Kinds.{Kind, Text, SmallNumber, Number, Seed, Count, ListKind, score_kinds, MadeOf, made_of, values_of}
@@ -15,12 +16,12 @@ pub record Subcommand : Type 0 where
   pub kinds : List Kind
   pub line : MadeOf Line kinds
 
-abbrev pub row : List ℕ → (kinds : List Kind) → MadeOf Line kinds → Subcommand
-row name kinds line = record { name = name; kinds = kinds; line = line }
+abbrev pub subcommand : List ℕ → (kinds : List Kind) → MadeOf Line kinds → Subcommand
+subcommand name kinds line = record { name = name; kinds = kinds; line = line }
 
 -- with the last three values as games, `X Y D`
-abbrev pub scored : {X : Type 0} → (List ℕ → ℕ → ℕ → Games → X) → List ℕ → ℕ → ℕ → ℕ → ℕ → ℕ → X
-scored line file first second x y d = line file first second (record { x = x; y = y; d = d })
+abbrev pub with_games : {X : Type 0} → (List ℕ → ℕ → ℕ → Games → X) → List ℕ → ℕ → ℕ → ℕ → ℕ → ℕ → X
+with_games line file first second x y d = line file first second (record { x = x; y = y; d = d })
 
 -- `FILE`
 abbrev pub file_kinds : List Kind
@@ -33,23 +34,23 @@ report_kinds = Text ∷ SmallNumber ∷ Number ∷ score_kinds
 -- the subcommands
 abbrev pub subcommands : List Subcommand
 subcommands =
-    row (codes "init") (Text ∷ Text ∷ SmallNumber ∷ SmallNumber ∷ []) Init
-    ∷ row (codes "enrol") (Text ∷ Text ∷ []) Enrol
-    ∷ row (codes "import") (Text ∷ Text ∷ []) Import
-    ∷ row (codes "start") file_kinds Start
-    ∷ row (codes "pair") (Text ∷ SmallNumber ∷ Seed ∷ []) Pair
-    ∷ row (codes "result") report_kinds (scored Report)
-    ∷ row (codes "correct") report_kinds (scored Correct)
-    ∷ row (codes "drop") (Text ∷ Number ∷ []) Drop
-    ∷ row (codes "cut") file_kinds Cut
-    ∷ row (codes "playoff") (Text ∷ SmallNumber ∷ SmallNumber ∷ score_kinds) (scored Playoff)
-    ∷ row (codes "standings") file_kinds Standings
-    ∷ row (codes "players") file_kinds Players
-    ∷ row (codes "slips") (Text ∷ SmallNumber ∷ []) Slips
-    ∷ row (codes "bracket") file_kinds Bracket
-    ∷ row (codes "export") (Text ∷ ListKind ∷ []) Export
-    ∷ row (codes "serve") (Text ∷ Number ∷ Count ∷ []) Serve
-    ∷ row (codes "migrate") file_kinds Migrate
+    subcommand (codes "init") (Text ∷ Text ∷ SmallNumber ∷ SmallNumber ∷ []) Init
+    ∷ subcommand (codes "enrol") (Text ∷ Text ∷ []) Enrol
+    ∷ subcommand (codes "import") (Text ∷ Text ∷ []) Import
+    ∷ subcommand (codes "start") file_kinds Start
+    ∷ subcommand (codes "pair") (Text ∷ SmallNumber ∷ Seed ∷ []) Pair
+    ∷ subcommand (codes "result") report_kinds (with_games ReportResult)
+    ∷ subcommand (codes "correct") report_kinds (with_games Correct)
+    ∷ subcommand (codes "drop") (Text ∷ Number ∷ []) Drop
+    ∷ subcommand (codes "cut") file_kinds Cut
+    ∷ subcommand (codes "playoff") (Text ∷ SmallNumber ∷ SmallNumber ∷ score_kinds) (with_games Playoff)
+    ∷ subcommand (codes "standings") file_kinds Standings
+    ∷ subcommand (codes "players") file_kinds Players
+    ∷ subcommand (codes "slips") (Text ∷ SmallNumber ∷ []) Slips
+    ∷ subcommand (codes "bracket") file_kinds Bracket
+    ∷ subcommand (codes "export") (Text ∷ ListKind ∷ []) Export
+    ∷ subcommand (codes "serve") (Text ∷ Number ∷ Count ∷ []) Serve
+    ∷ subcommand (codes "migrate") file_kinds Migrate
     ∷ []
 
 -- the one that has this name

@@ -1,5 +1,5 @@
 ghost use Rattle.std.specs.Prelude.{codes, map, string_bytes};
-ghost use Rattle.er_words.specs.Line.{file_kinds, report_kinds, scored};
+ghost use Rattle.er_words.specs.Line.{file_kinds, report_kinds, with_games};
 ghost use Rattle.er_words.specs.Usage.{ReadsWords};
 ghost use Rattle.er_words.specs.inside.Usage.{ReadsAs, ReadsNamed, report};
 
@@ -133,7 +133,7 @@ fn read_file(alloc: Global, words: &[&str]) -> Result<FilePath, LineFault>
 
 /// The words `FILE ROUND TABLE X Y D`.
 fn read_report(alloc: Global, words: &[&str]) -> Result<(FilePath, u8, u16, Games), LineFault>
-    ensures { ReadsAs report_kinds (scored report) (map (λ word. word.now) words.now) result }
+    ensures { ReadsAs report_kinds (with_games report) (map (λ word. word.now) words.now) result }
 {
     let (file, words) = text(words, 1)?;
     let (round, words) = small_number(words, 2)?;

@@ -16,13 +16,13 @@ returns-clause-ends g c =
     record {
       asked = search rules;
       unread = search rules;
-      answered = λ asked. always (line_of (map string_bytes c.args.words.now)) (λ line. inr (refl, printed.ensures));
+      answered = always (line_of (map string_bytes c.args.words.now)) (λ line. inr (refl, printed.ensures));
     }
 
 pub returns-clause-goes_on : goal.returns-clause-goes_on
-returns-clause-goes_on g c asked =
+returns-clause-goes_on g c =
     always (line_of (map string_bytes c.args.words.now))
     (λ line. absent_goes_on _ _ _ _ _ Memory (inr (inl refl)) refl c.print.ensures (action_of line))
 
 pub returns-in-Ok-clause-goes_on : goal.returns-in-Ok-clause-goes_on
-returns-in-Ok-clause-goes_on g c asked = rw c.in-Ok.ensures.0 c.run_line.ensures.goes_on
+returns-in-Ok-clause-goes_on g c = rw c.in-Ok.ensures.0 c.run_line.ensures.goes_on

@@ -4,7 +4,7 @@ use Rattle.sqlite_trees.specs.declared.store.Store.{Ghosts}
 use Rattle.sqlite_trees.specs.declared.memory.MemStore.{MemStore}
 use Rattle.sqlite.specs.Steps.{over_memory}
 use Rattle.er_desk.specs.declared.desk.Desk.{Desk}
-use Rattle.er_desk.specs.Desk.{DeskState, ShowsOwn, desk_state, version_in}
+use Rattle.er_desk.specs.Desk.{DeskState, HoldsOwnEvent, desk_state, version_in}
 
 -- the state of a script's desk, once it has one
 abbrev pub desk_state_of : {S : Type 0} {g : Ghosts S} → Option (Desk S g) → Option DeskState
@@ -12,4 +12,4 @@ desk_state_of desk = option_map desk_state desk
 
 -- the tables in memory are of version 2, and represent the event, where no fault of the store is behind
 abbrev pub HasOwnTables : Option (Desk MemStore over_memory) → Type 0
-HasOwnTables desk = IfSome desk (λ d. (version_in d ≡ 2) × (IsFalse (desk_state d).needs_reopen → ShowsOwn over_memory d))
+HasOwnTables desk = IfSome desk (λ d. (version_in d ≡ 2) × (IsFalse (desk_state d).needs_reopen → HoldsOwnEvent over_memory d))

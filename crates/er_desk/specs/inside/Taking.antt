@@ -7,10 +7,10 @@ use Rattle.er_event.specs.declared.changes.Change.{Change}
 use Rattle.er_event.specs.declared.refusals.Refusal.TheVariants.{Memory}
 use Rattle.er_store.specs.Fault.{IsFault}
 use Rattle.er_store.specs.Reading.{KeepsTables}
-use Rattle.er_store.specs.Representing.{Either, IsStoredIn, KeepsOthers, Leaves}
+use Rattle.er_store.specs.Representing.{Either, IsStoredIn, KeepsOthers, AfterCrash}
 use Rattle.er_desk.specs.declared.desk.Desk.{Desk}
-use Rattle.er_desk.specs.Desk.{IsStoredAt, ShowsOwn, desk_state, placed_of, state, version_in}
-use Rattle.er_desk.specs.Headline.{LeavesJust}
+use Rattle.er_desk.specs.Desk.{IsStoredAt, HoldsOwnEvent, desk_state, placed_of, state, version_in}
+use Rattle.er_desk.specs.Headline.{RecoversJust}
 use Rattle.er_desk.specs.Reply.{Reply}
 
 -- With a receipt, file and memory have the event after the change. For want of memory beside the store all stays as it was, and
@@ -22,14 +22,14 @@ pub record TakesChange {S : Type 0} (g : Ghosts S) (old : Desk S g) (change : Ch
   pub refused : IfErr reply (λ why. ((new ≡ old) × (why ≡ Memory))
       ⊎ ((desk_state new ≡ record (desk_state old) { needs_reopen = true }) × IsFault why))
   pub clean : HasCleanDisk (state g new) → HasCleanDisk (state g old)
-  pub written : HasCleanDisk (state g new) → ShowsOwn g old → OnOk reply (ShowsOwn g new)
+  pub written : HasCleanDisk (state g new) → HoldsOwnEvent g old → OnOk reply (HoldsOwnEvent g new)
   -- a refusal changes no table, and the other tables stay, in the version that they were in
   pub kept : HasCleanDisk (state g new) → OnErr reply (KeepsTables (state g old) (state g new))
-  pub others : HasCleanDisk (state g new) → ShowsOwn g old → IsTrue (state g new).is_open
+  pub others : HasCleanDisk (state g new) → HoldsOwnEvent g old → IsTrue (state g new).is_open
       → KeepsOthers (version_in old) (state g old).now (state g new).now
   pub version : version_in new ≡ version_in old
   -- what was acknowledged is there after a crash, and what was cut off is there whole or not at all
-  pub acknowledged : ShowsOwn g old → OnOk reply (LeavesJust (state g new) (placed_of (desk_state new)))
-  pub crash : ShowsOwn g old
-      → Leaves (state g new) (Either (IsStoredAt (placed_of (desk_state old)))
+  pub acknowledged : HoldsOwnEvent g old → OnOk reply (RecoversJust (state g new) (placed_of (desk_state new)))
+  pub crash : HoldsOwnEvent g old
+      → AfterCrash (state g new) (Either (IsStoredAt (placed_of (desk_state old)))
       (IsStoredIn (version_in old) (after old.event change) (old.serial + 1)))

@@ -3,8 +3,8 @@ use Rattle.er_event.specs.declared.events.Event.TheInside.{Inside}
 use Rattle.er_event.specs.Event.{EventValue}
 use Rattle.er_event.specs.Sound.{IsSoundButForSeeds}
 
-abbrev pub value_of : Inside → EventValue
-value_of e = record {
+abbrev pub event_value : Inside → EventValue
+event_value e = record {
   name = e.name;
   rounds = e.rounds;
   cut = e.cut;
@@ -15,4 +15,4 @@ value_of e = record {
 }
 
 abbrev pub IsSoundInside : Inside → Type 0
-IsSoundInside e = IsSoundButForSeeds (value_of e)
+IsSoundInside e = IsSoundButForSeeds (event_value e)

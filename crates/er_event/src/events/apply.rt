@@ -3,7 +3,8 @@ ghost use Rattle.std.specs.Prelude.{IfErr, OnOk};
 ghost use Rattle.std.specs.List.{range_with_len};
 ghost use Rattle.er_event.specs.Bracket.{slot_in};
 ghost use Rattle.er_event.specs.Change.{after, with_player, with_dropped, with_phase, with_round, with_score, with_bracket};
-ghost use Rattle.er_event.specs.Change.{with_bracket_score, dropped_at, scored, stage_of, scored_slot, one_more, Fits, TakesMemory};
+ghost use Rattle.er_event.specs.Change.{with_bracket_score, dropped_at, match_with_score, stage_of, scored_slot, one_more, Fits};
+ghost use Rattle.er_event.specs.Change.{GrowsEvent};
 ghost use Rattle.er_event.specs.Sound.{numbers, IsSoundButForSeeds};
 ghost use Rattle.er_event.specs.declared.changes.Change.{Change};
 ghost use Rattle.er_event.specs.declared.matches.Match.{Match};
@@ -33,7 +34,7 @@ fn drop_listed(players: &mut Vec<Player>, player: PlayerNo)
 fn score_match(matches: &mut Items<Match>, at: usize, score: Score)
     requires { at < length matches.old }
     ensures { (m : Match) → slice_get matches.old at ≡ Some m
-        → matches.new ≡ slice_set matches.old at (scored score m) }
+        → matches.new ≡ slice_set matches.old at (match_with_score score m) }
 {
     let played = matches.as_slice()[at];
     let score = Some(score);
@@ -137,7 +138,7 @@ impl Event {
         requires { Fits self change.now }
         ensures ok { IfOk result (λ e. e ≡ after self change.now) }
         ensures err { IfErr result (λ e. e.0 ≡ self) }
-        ensures memory { IsErr result → TakesMemory change.now }
+        ensures memory { IsErr result → GrowsEvent change.now }
     {
         match change {
             Change::AddPlayer { name } => self.add_player(*name),

@@ -5,10 +5,9 @@ ghost use Rattle.er_event.specs.declared.matches.Match.{Match};
 ghost use Rattle.er_event.specs.declared.rounds.Round.{Round};
 ghost use Rattle.er_event.specs.declared.seats.TheConstants.{NUMBERS};
 ghost use Rattle.er_event.specs.Change.{scored_slot, after, Fits};
-ghost use Rattle.er_event.specs.Appearances.{own, appearances_of_match, counted_appearances, appearances_from};
-ghost use Rattle.er_event.specs.Totals.{totals_of, totals_of_games, plus, gathered_of, AreTotals};
-ghost use Rattle.er_event.specs.inside.Played.{with_new, IsRescored, ArePlayed, AddsAppearances};
-ghost use Rattle.er_event.specs.inside.Seen.{AreFew, AreOver, IsSeatedOnce, HasTable, rescored};
+ghost use Rattle.er_event.specs.Totals.{totals_of, plus, gathered_of, AreTotals};
+ghost use Rattle.er_event.specs.inside.Played.{with_new, results_of_match, complete_results, IsRescored, ArePlayed, AddsResults};
+ghost use Rattle.er_event.specs.inside.Seen.{AreFew, AreOver, IsSeatedOnce, RoundHasTable, rounds_with_score, totals_of_games};
 
 use super::{NewScore, Totals, complete_of, games_seen, is_complete_with, match_with};
 use crate::changes::Change;
@@ -36,7 +35,7 @@ fn games_in(seats: &Seats<'_>, new: Option<&Match>, player: u16) -> Option<Games
     requires apart { IfSome (option_map (λ m. m.now) new) (λ m. m.a ≢ m.b) }
     ensures value { (matches : List Match)
         → IsRescored seats.now (option_map (λ m. m.now) new.entry) matches → (round : ℕ)
-        → totals_of (own player (flat_map (appearances_of_match round) matches))
+        → totals_of (flat_map (results_of_match player round) matches)
         ≡ totals_of_games result }
     ensures few { IfSome result AreFew }
 {
@@ -65,7 +64,8 @@ fn add_round(played: &mut [Totals; NUMBERS], seats: &Seats<'_>, new: Option<&Mat
     requires apart { IfSome (option_map (λ m. m.now) new) (λ m. m.a ≢ m.b) }
     ensures value { (matches : List Match)
         → IsRescored seats.now (option_map (λ m. m.now) new.entry) matches → (round : ℕ)
-        → AddsAppearances (flat_map (appearances_of_match round) matches) played.old played.new }
+        → AddsResults (λ player. flat_map (results_of_match player round) matches) played.old
+        played.new }
     ensures over { (rounds : ℕ) → All (AreOver rounds) played.old
         → All (AreOver (rounds + 1)) played.new }
 {
@@ -79,8 +79,8 @@ fn count_round(played: &mut [Totals; NUMBERS], matches: &[Match])
     requires seated { IsSeatedOnce matches.now }
     requires room { (rounds : ℕ) × (rounds < MAX_ROUNDS) × All (AreOver rounds) played.old }
     ensures value { (number : ℕ)
-        → AddsAppearances (counted_appearances number (record { matches = matches.now })) played.old
-        played.new }
+        → AddsResults (λ player. complete_results player (number, record { matches = matches.now }))
+        played.old played.new }
     ensures over { (rounds : ℕ) → All (AreOver rounds) played.old
         → All (AreOver (rounds + 1)) played.new }
 {
@@ -105,7 +105,7 @@ fn none_played() -> [Totals; NUMBERS]
 pub(crate) fn played_in(rounds: &[Round]) -> [Totals; NUMBERS]
     requires few { length rounds.now ≤ MAX_ROUNDS }
     requires seated { All (λ round. IsSeatedOnce round.matches) rounds.now }
-    ensures played { ArePlayed (appearances_from 1 rounds.now) result }
+    ensures played { ArePlayed rounds.now result }
     ensures over { All (AreOver (length rounds.now)) result }
     ensures long { length result ≡ NUMBERS }
 {
@@ -122,8 +122,8 @@ fn count_scored(played: &mut [Totals; NUMBERS], matches: &[Match], table: usize,
     requires seated { IsSeatedOnce matches.now }
     requires room { (rounds : ℕ) × (rounds < MAX_ROUNDS) × All (AreOver rounds) played.old }
     ensures value { (number : ℕ)
-        → AddsAppearances (counted_appearances number
-        (record { matches = scored_slot matches.now table score })) played.old played.new }
+        → AddsResults (λ player. complete_results player
+        (number, record { matches = scored_slot matches.now table score })) played.old played.new }
     ensures over { (rounds : ℕ) → All (AreOver rounds) played.old
         → All (AreOver (rounds + 1)) played.new }
 {
@@ -140,13 +140,14 @@ fn count_scored(played: &mut [Totals; NUMBERS], matches: &[Match], table: usize,
 /// Adds the games of one of the rounds to the totals of all players, if it is complete with the new score.
 fn count_at(played: &mut [Totals; NUMBERS], rounds: &[Round], at: usize, new: &NewScore)
     requires within { at < length rounds.now }
-    requires table { HasTable rounds.now new.now.place new.now.table }
+    requires table { RoundHasTable rounds.now new.now.place new.now.table }
     requires seated { All (λ round. IsSeatedOnce round.matches) rounds.now }
     requires room { (count : ℕ) × (count < MAX_ROUNDS) × All (AreOver count) played.old }
     ensures value { (round : Round)
-        → round ≡ slice_index_or (rescored rounds.now new.now.place new.now.table new.now.score) at
-        round → (number : ℕ) → AddsAppearances (counted_appearances number round) played.old
-        played.new }
+        → round ≡ slice_index_or
+        (rounds_with_score rounds.now new.now.place new.now.table new.now.score) at
+        round → (number : ℕ) → AddsResults (λ player. complete_results player (number, round))
+        played.old played.new }
     ensures over { (count : ℕ) → All (AreOver count) played.old
         → All (AreOver (count + 1)) played.new }
 {
@@ -161,11 +162,10 @@ fn count_at(played: &mut [Totals; NUMBERS], rounds: &[Round], at: usize, new: &N
 /// What the matches of the complete rounds come to with the new score, by number.
 fn played_with(rounds: &[Round], new: &NewScore) -> [Totals; NUMBERS]
     requires few { length rounds.now ≤ MAX_ROUNDS }
-    requires table { HasTable rounds.now new.now.place new.now.table }
+    requires table { RoundHasTable rounds.now new.now.place new.now.table }
     requires seated { All (λ round. IsSeatedOnce round.matches) rounds.now }
     ensures played { ArePlayed
-        (appearances_from 1 (rescored rounds.now new.now.place new.now.table new.now.score))
-        result }
+        (rounds_with_score rounds.now new.now.place new.now.table new.now.score) result }
     ensures over { All (AreOver (length rounds.now)) result }
     ensures long { length result ≡ NUMBERS }
 {
@@ -181,8 +181,7 @@ fn played_with_round(rounds: &[Round], matches: &[Match]) -> [Totals; NUMBERS]
     requires few { length rounds.now < MAX_ROUNDS }
     requires seated { All (λ round. IsSeatedOnce round.matches) rounds.now }
     requires seated_now { IsSeatedOnce matches.now }
-    ensures played { ArePlayed (appearances_from 1 (rounds.now
-        ++ record { matches = matches.now } ∷ [])) result }
+    ensures played { ArePlayed (rounds.now ++ record { matches = matches.now } ∷ []) result }
     ensures over { All (AreOver (length rounds.now + 1)) result }
     ensures long { length result ≡ NUMBERS }
 {
@@ -238,7 +237,7 @@ impl Event {
     /// What the matches of the complete rounds come to after a change, by number.
     pub(crate) fn all_played_after(&self, change: &Change) -> [Totals; NUMBERS]
         requires { Fits self.now change.now }
-        ensures played { ArePlayed (appearances_from 1 (after self.now change.now).stored) result }
+        ensures played { ArePlayed (after self.now change.now).stored result }
         ensures over { All (AreOver MAX_ROUNDS) result }
         ensures long { length result ≡ NUMBERS }
     {

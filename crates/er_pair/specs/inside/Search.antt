@@ -58,9 +58,10 @@ abbrev pub IsDeadAhead : List Row → Row → Cursor → ℕ → Type 0
 IsDeadAhead rows used ahead steps = ((answer_ahead rows used ahead).0 ≡ None) × ((answer_ahead rows used ahead).1 ≡ steps)
 
 -- what is kept of a dead end, but where no place is left, is so whatever is used
-abbrev pub IsKnown : List Row → KnownDeadEnd → Type 0
-IsKnown rows known = 0 < known.left → (used : Row) → IsDeadAhead rows used (record { index = known.index; left = known.left }) known.steps
+abbrev pub IsTrueDeadEnd : List Row → KnownDeadEnd → Type 0
+IsTrueDeadEnd rows known = 0 < known.left → (used : Row)
+    → IsDeadAhead rows used (record { index = known.index; left = known.left }) known.steps
 
 pub record AreDeadEnds (rows : List Row) (kept : List KnownDeadEnd) : Type 0 where
   pub some : 0 < length kept
-  pub each : All (λ known. IsKnown rows known) kept
+  pub each : All (λ known. IsTrueDeadEnd rows known) kept

@@ -5,8 +5,8 @@ use Rattle.csv.specs.Writing.{default_writer, fields_written, has_written, write
 use Rattle.csv.specs.declared.Writer.{Writer}
 
 -- what a writer of a list has written
-abbrev pub written : Writer (Vec ℕ Global) → List ℕ
-written w = (writer_under w).items ++ writer_pending w
+abbrev pub written_bytes : Writer (Vec ℕ Global) → List ℕ
+written_bytes w = (writer_under w).items ++ writer_pending w
 
 -- a writer with the defaults, between two records
 abbrev pub IsPlainWriter : Writer (Vec ℕ Global) → Type 0

@@ -1,5 +1,5 @@
 use Rattle.std.proofs.{Common.{length, sym, ap, subst, ◌∙◌, arith}, lemmas.Result.IfOk-weaker}
-use Rattle.er_rank.specs.{Meeting.encounters, inside.Placing.{ranked, ArePlacingsInOrder}, Standings.AreStandings}
+use Rattle.er_rank.specs.{Meeting.encounters, inside.Placing.{ranked_rows, ArePlacingsInOrder}, Standings.AreStandings}
 use Rattle.er_rank.proofs.{ListLemmas.{AreStandings-placings, length-placings, OneStandings-sound}, standings_of.Goals.In_ok-placings}
 use Rattle.er_rank.proofs.standings_of.Goals as goal
 
@@ -25,7 +25,7 @@ pub returns-clause-value : goal.returns-clause-value
 returns-clause-value c = λ event are.
     let here = rw (are.tallies, are.meetings) at (placed (goal.at.returns-clause-value c).In_ok-placings) in
     let standings = AreStandings-placings event c.in_ok-placings.placings.items are.sound here in
-    let value = ap ranked c.as_slice-2.ensures.value in
+    let value = ap ranked_rows c.as_slice-2.ensures.value in
     IfOk-weaker c.rows_of.result _ _ (λ rows is. subst (AreStandings event) (sym (is ∙ value)) standings) c.rows_of.ensures
 
 pub returns-clause-only : goal.returns-clause-only

@@ -4,7 +4,7 @@ use Rattle.std.specs.declared.cmp.Ordering.{Ordering}
 use Rattle.std.specs.Ordering.{nat_cmp, ordering_then, is_lt, is_eq, bool_cmp}
 use Rattle.er_share.specs.Order.{share_cmp}
 use Rattle.er_event.specs.declared.tallies.Tally.{Tally}
-use Rattle.er_rank.specs.Meeting.{Encounter, opponents_of, totals_of}
+use Rattle.er_rank.specs.Meeting.{Encounter, opponents_of, tally_totals}
 use Rattle.er_rank.specs.inside.Merit.{IsMerit}
 use Rattle.er_rank.specs.declared.merits.Merit.{Merit}
 use Rattle.er_rank.specs.declared.placings.Placing.{Placing}
@@ -43,7 +43,7 @@ row_of rank p = record {
 pub record ArePlacings (met : List Encounter) (tallies : List Tally) (placings : List Placing) : Type 0 where
   pub numbers : map (λ p. p.player) placings ≡ map (λ t. t.no) tallies
   pub dropped : map (λ p. p.dropped) placings ≡ map (λ t. t.dropped) tallies
-  pub merits : All (λ p. IsMerit (totals_of tallies p.player) (opponents_of met p.player) p.merit) placings
+  pub merits : All (λ p. IsMerit (tally_totals tallies p.player) (opponents_of met p.player) p.merit) placings
 
 -- the same, sorted
 pub record ArePlacingsInOrder (met : List Encounter) (tallies : List Tally) (placings : List Placing) : Type 0 where
@@ -55,5 +55,5 @@ pub record ArePlacingsInOrder (met : List Encounter) (tallies : List Tally) (pla
 abbrev pub rank_in : List Placing → Placing → ℕ
 rank_in placings p = 1 + count_by (λ q. is_above q p) placings
 
-abbrev pub ranked : List Placing → List Row
-ranked placings = map (λ p. row_of (rank_in placings p) p) placings
+abbrev pub ranked_rows : List Placing → List Row
+ranked_rows placings = map (λ p. row_of (rank_in placings p) p) placings

@@ -1,6 +1,7 @@
 ghost use Rattle.std.specs.Prelude.{◌≡◌, ◌≤◌, ◌+◌, ◌++◌, None, false, length};
 ghost use Rattle.er_event.specs.Refusal.{entry_of};
-ghost use Rattle.er_slips.specs.Answer.{answer_value, answer_of, fault_answer, status_of, games_text, detail, refusal_body, refusal_answer};
+ghost use Rattle.er_slips.specs.Answer.{answer_value, answer_of, fault_answer, status_of, games_object, detail, refusal_body};
+ghost use Rattle.er_slips.specs.Answer.{refusal_answer};
 ghost use Rattle.er_slips.specs.Answer.{receipt_body, receipt_answer};
 
 use crate::answer::Answer;
@@ -47,7 +48,7 @@ fn status_of(refusal: &Refusal) -> u16
 
 fn push_games(body: &mut ShortText, score: Score)
     requires { length body.old ≤ 200 }
-    ensures value { body.new ≡ body.old ++ games_text score }
+    ensures value { body.new ≡ body.old ++ games_object score }
     ensures size { length body.new ≤ length body.old + 76 }
 {
     let games = score.games();

@@ -1,5 +1,5 @@
 ghost use Rattle.std.specs.Prelude.{◌≡◌, ◌≤◌, IfOk, length, take, drop};
-ghost use Rattle.er_slips.specs.Routes.{before, after, routes, pattern_of};
+ghost use Rattle.er_slips.specs.Routes.{before_slash, after_slash, routes, pattern_of};
 ghost use Rattle.er_slips.specs.Request.{path_of, path_number, path_round, round_route, table_route, route_of};
 
 use crate::request::numbers::are_digits;
@@ -89,8 +89,8 @@ pub fn path_of(target: &[u8]) -> &[u8]
 
 /// What stands before the first slash, and what stands from it on.
 fn split(text: &[u8]) -> (&[u8], &[u8])
-    ensures before { result.0.now ≡ before text.now }
-    ensures after { result.1.now ≡ after text.now }
+    ensures before_slash { result.0.now ≡ before_slash text.now }
+    ensures after_slash { result.1.now ≡ after_slash text.now }
 {
     let mut end = 0;
     while end < text.len() && text[end] != b'/' {

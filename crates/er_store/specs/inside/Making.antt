@@ -24,14 +24,14 @@ pub record Grows (table : ℕ → Table) (old new : Database) : Type 0 where
   pub empty : new.trees (next_tree old.schema) ≡ []
 
 -- the transaction goes on from the one to the other
-pub record GoesOn (old new : State) : Type 0 where
+pub record ContinuesTransaction (old new : State) : Type 0 where
   pub was : IsTrue old.in_transaction
   pub shows : Shows old new new.now old.committed true
   pub sound : IsDatabase new.now
 
 -- a table of this name was made, and no other but SQLite's own of counts
 pub record MakesTable (table : ℕ → Table) (old new : State) : Type 0 where
-  pub goes : GoesOn old new
+  pub goes : ContinuesTransaction old new
   pub free : is_used old.now.schema (table 0).name ≡ false
   pub grows : Grows table old.now new.now
   pub just : (made : Table) → Has grows.keeps.more made → Has ((table 0).name ∷ codes "sqlite_sequence" ∷ []) made.name
@@ -44,7 +44,7 @@ pub record IsEmptyAfter (tree : ℕ) (table : ℕ → Table) (db : Database) : T
 
 -- the five tables were made and no other, `event` first
 pub record MakesFive (version : ℕ) (old new : State) : Type 0 where
-  pub goes : GoesOn old new
+  pub goes : ContinuesTransaction old new
   pub free : is_used old.now.schema (codes "event") ≡ false
   pub event : Grows event old.now new.now
   pub just : (made : Table) → Has event.keeps.more made → Has (names_taken version) made.name

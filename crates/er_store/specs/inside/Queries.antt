@@ -33,9 +33,9 @@ table_query tree terms keys = record (plain_query (inner tree end) [] terms) {
 }
 
 -- the text is one statement with so many parameters
-abbrev pub Takes : ℕ → List ℕ → Result Compiled CompileError → Type 0
-Takes n sql (Ok c) = (length sql ≤ c.tail) × (length c.names ≡ n)
-Takes n sql (Err e) = ⊥
+abbrev pub TakesParameters : ℕ → List ℕ → Result Compiled CompileError → Type 0
+TakesParameters n sql (Ok c) = (length sql ≤ c.tail) × (length c.names ≡ n)
+TakesParameters n sql (Err e) = ⊥
 
 -- the text is one SELECT of the schema, with these parameters, by this query
 pub record SelectsWith (params : Row) (sql : List ℕ) (q : Query) (schema : Schema) : Type 0 where
@@ -43,7 +43,7 @@ pub record SelectsWith (params : Row) (sql : List ℕ) (q : Query) (schema : Sch
   pub is : command_of (understood schema sql) ≡ Select (record { lets = []; body = q }) names
   pub plain : IsPlain (understood schema sql)
   pub unlisted : reads_listing schema sql ≡ false
-  pub whole : Takes (length params) sql (understood schema sql)
+  pub whole : TakesParameters (length params) sql (understood schema sql)
   pub typed : accepts_program schema [] q params ≡ true
 
 -- and with none

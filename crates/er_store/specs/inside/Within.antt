@@ -17,32 +17,32 @@ use Rattle.er_store.specs.inside.Making.{MakesTable}
 use Rattle.er_store.specs.inside.Steps.{Stays, BringsToWith, CreatesNext}
 
 -- what the connection of a transaction shows
-abbrev pub shown : {S : Type 0} (g : Ghosts S) → Transaction S → State
-shown g tx = state g tx.conn.now
+abbrev pub tx_state : {S : Type 0} (g : Ghosts S) → Transaction S → State
+tx_state g tx = state g tx.conn.now
 
 -- A step works on the connection that was lent. However it ends, a crash leaves what it could before, and the last commit is
 -- as it was.
 pub record Lends {S : Type 0} (g : Ghosts S) (old new : Transaction S) : Type 0 where
   pub same_reference : new.conn.ghost_name ≡ old.conn.ghost_name
-  pub stays : Stays (shown g old) (shown g new)
+  pub stays : Stays (tx_state g old) (tx_state g new)
 
 -- On a clean disk, a step that goes well does this.
 abbrev pub Achieves : {S : Type 0} (g : Ghosts S) → (State → State → Type 0)
     → Transaction S → Result (Unit {0}) Error → Transaction S → Type 0
-Achieves g This old result new = HasCleanDisk (shown g new) → OnOk result (This (shown g old) (shown g new))
+Achieves g This old result new = HasCleanDisk (tx_state g new) → OnOk result (This (tx_state g old) (tx_state g new))
 
 -- Tables that lie so and represent the one event then represent the other, with the serial and the totals that they had.
 abbrev pub Brings : {S : Type 0} (g : Ghosts S) → Layout → (from to : EventValue)
     → Transaction S → Result (Unit {0}) Error → Transaction S → Type 0
 Brings g l from to old result new =
-    (s : ℕ) (t : List TallyRow) → RepresentsWith l (shown g old).now from s t
+    (s : ℕ) (t : List TallyRow) → RepresentsWith l (tx_state g old).now from s t
     → Achieves g (λ a b. BringsToWith l a b to s t) old result new
 
 -- Tables that lie so and represent the event with the one rows of totals then represent it with the others.
 abbrev pub Counts : {S : Type 0} (g : Ghosts S) → Layout → EventValue → (was now : List TallyRow)
     → Transaction S → Result (Unit {0}) Error → Transaction S → Type 0
 Counts g l e was now old result new =
-    (s : ℕ) → RepresentsWith l (shown g old).now e s was → Achieves g (λ a b. BringsToWith l a b e s now) old result new
+    (s : ℕ) → RepresentsWith l (tx_state g old).now e s was → Achieves g (λ a b. BringsToWith l a b e s now) old result new
 
 -- a transaction is still begun
 abbrev pub Inside : State → State → Type 0
@@ -56,5 +56,5 @@ HasPlayer e number = (numbers e.players ≡ range_with_len 1 (length e.players))
 pub record MakesNext {S : Type 0} (g : Ghosts S) (table : ℕ → Table) (before after : Schema)
     (old : Transaction S) (result : Result (Unit {0}) Error) (new : Transaction S)
     : Type 0 where
-  pub creates : (shown g old).now.schema ≡ before → Achieves g (CreatesNext before after) old result new
+  pub creates : (tx_state g old).now.schema ≡ before → Achieves g (CreatesNext before after) old result new
   pub beside : Achieves g (MakesTable table) old result new

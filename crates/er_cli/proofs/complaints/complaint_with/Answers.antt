@@ -3,7 +3,7 @@ use Rattle.std.proofs.Common.{refl, sym, ap, ap₂, ◌∙◌}
 use Rattle.std.proofs.lemmas.Option.{slice_get-map, slice_get_read, slice_get_past}
 use Rattle.std.specs.Prelude.{slice_get}
 use Rattle.std.specs.Option.{option_map}
-use Rattle.er_cli.specs.Complaints.{opened, place_of}
+use Rattle.er_cli.specs.Complaints.{complaint_head, place_of}
 use Rattle.er_cli.proofs.complaints.complaint_with.Goals.{in-Some+in_ok-push_str+in_ok-push_str-2+in_ok-push_str-3, in_default}
 use Rattle.er_cli.proofs.complaints.complaint_with.Goals as goal
 
@@ -19,15 +19,15 @@ module _ (words : List (String Global)) (i place : ℕ) (is : i ≡ place) where
 pub returns : goal.returns
 returns c =
     let words = c.args.words.now in
-    let begun : string_bytes c.match-get.text ≡ opened (slice_get (map string_bytes words) (place_of c.args.fault)) =
+    let begun : string_bytes c.match-get.text ≡ complaint_head (slice_get (map string_bytes words) (place_of c.args.fault)) =
     elim c.match-get.branch [
       | in-Some+in_ok-push_str+in_ok-push_str-2+in_ok-push_str-3 w ↦
           let here = w.in-Some.ensures.lookup in
           ap string_bytes w.text-is ∙ (w.in_ok-push_str-3.ensures.bytes ∙ (ap (λ text. text ++ codes "` ")
           (w.in_ok-push_str-2.ensures.bytes ∙ ap₂ (λ text more. text ++ more)
           (w.in_ok-push_str.ensures.bytes ∙ ap (λ text. text ++ codes "`") c.in_ok-text.ensures.ok) w.as_str.ensures.value)
-          ∙ ap opened (sym (word_at words c.place_of.result _ c.place_of.ensures w.in-Some.word.now here.3.0 here.1))))
-      | in_default w ↦ ap string_bytes w.text-is ∙ (c.in_ok-text.ensures.ok ∙ ap opened (sym
+          ∙ ap complaint_head (sym (word_at words c.place_of.result _ c.place_of.ensures w.in-Some.word.now here.3.0 here.1))))
+      | in_default w ↦ ap string_bytes w.text-is ∙ (c.in_ok-text.ensures.ok ∙ ap complaint_head (sym
           (no_word words c.place_of.result _ c.place_of.ensures w.in_default.ensures.lookup.3)))
     ] in
     c.in_ok-push_str-5.ensures.bytes ∙ ap (λ text. text ++ c.args.advice.now)

@@ -1,7 +1,10 @@
-use Rattle.er_cli.proofs.Making.{lawful_replies}
+use Rattle.std.proofs.Common.{inl, inr, refl}
+use Rattle.er_cli.proofs.Making.{no_setup}
 use Rattle.er_cli.proofs.files.init.Goals as goal
 
 pub returns-in-Ok : goal.returns-in-Ok
 returns-in-Ok g c =
-    let named = c.in-Ok.ensures.ok in
-    lawful_replies _ _ _ _ _ _ c.create.result named.1 c.in-Ok.ensures.lawful (rw named.0 at c.create.ensures)
+    let named = c.in-Ok.ensures.ok in inl (c.in-Ok.ensures.lawful, rw named.0 at c.create.ensures)
+
+pub returns-in-Err : goal.returns-in-Err
+returns-in-Err g c = let why = c.in-Err.ensures.refused in inr (no_setup _ _ _ why.1, rw why.0 refl)

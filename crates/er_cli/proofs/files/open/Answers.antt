@@ -1,18 +1,18 @@
 use Rattle.std.proofs.Common.{inl, inr}
 use Rattle.sqlite_wal.specs.Files.{image_at}
-use Rattle.er_answers.specs.declared.question.Told.TheVariants.{Refused}
 use Rattle.er_cli.proofs.{GoingOn.{task_goes_on, unopened_goes_on}, Leaving.not_opened}
 use Rattle.er_cli.proofs.files.open.Goals as goal
 
 pub returns-in-Err-clause-ends : goal.returns-in-Err-clause-ends
-returns-in-Err-clause-ends g c = inr (inl (
-  Refused c.clear_fault.result.why,
-  rw c.tell_no_desk.ensures.left (not_opened _ _ c.in-Err.fault c.clear_fault.result.why c.clear_fault.result.left c.clear_fault.ensures.why
+returns-in-Err-clause-ends g c = inr (record {
+  done = c.clear_fault.result.why;
+  told = c.tell_no_desk.ensures.told;
+  file = rw c.tell_no_desk.ensures.left (inr (not_opened _ _ c.in-Err.fault c.clear_fault.result.why c.clear_fault.result.left
+      c.clear_fault.ensures.why
       c.clear_fault.ensures.left c.in-Err.ensures.opens.why c.in-Err.ensures.opens.unopened c.in-Err.ensures.opens.first
       c.in-Err.ensures.opens.left
-      c.in-Err.ensures.spared),
-  c.tell_no_desk.ensures.told,
-))
+      c.in-Err.ensures.spared));
+})
 
 pub returns-in-Err-clause-goes_on : goal.returns-in-Err-clause-goes_on
 returns-in-Err-clause-goes_on g c new first ends was =
@@ -26,20 +26,18 @@ returns-in-Err-clause-goes_on g c new first ends was =
     c.in-Err.ensures.opens.unopened c.in-Err.ensures.spared c.tell_no_desk.ensures.told)
 
 pub returns-in-Ok-clause-ends : goal.returns-in-Ok-clause-ends
-returns-in-Ok-clause-ends g c = inr (inr (
-  c.in-Ok.desk,
-  record { sees = c.in-Ok.ensures.opens.kept; finds = c.in-Ok.ensures.opens.found },
-  c.do_and_close.ensures,
-))
+returns-in-Ok-clause-ends g c =
+    let it = c.do_and_close.ensures in inl (c.in-Ok.desk, it.0, c.in-Ok.ensures.opens, it.1, it.2)
 
 pub returns-in-Ok-clause-goes_on : goal.returns-in-Ok-clause-goes_on
 returns-in-Ok-clause-goes_on g c new first ends was =
     let law = c.next_sessions.ensures in
     let image = image_at g.S.Start in
-    task_goes_on law image new first ends was _ c.do_and_close.result.left _ _ c.args.task c.in-Ok.desk c.in-Ok.ensures.opens.ready
+    let it = c.do_and_close.ensures in
+    task_goes_on law image new first ends was _ c.do_and_close.result.left _ _ c.args.task c.in-Ok.desk it.0 c.in-Ok.ensures.opens.ready
     (record {
       finds = c.in-Ok.ensures.opens.found first was.left (law new first.point ends was.begins was.history).sound;
       sees =
           c.in-Ok.ensures.opens.kept;
     })
-    c.do_and_close.ensures
+    it.1 it.2

@@ -1,11 +1,11 @@
 use Rattle.std.proofs.Common.{inl, inr, Bool, List, ℕ, [], ◌∷◌, Err, refl, sym, subst, ◌∙◌}
 use Rattle.er_event.specs.{declared.commands.Command.TheVariants.Enrol, declared.refusals.Refusal.TheVariants.Memory}
-use Rattle.er_desk.specs.{Asking.Asks, Desk.{Turn, desk_state}, Run.session_of}
+use Rattle.er_desk.specs.{Asking.Asks, Desk.{Outcome, desk_state}, Run.session_of}
 use Rattle.er_cli.proofs.importing.enrol.Goals as goal
 
 pub returns-clause-turn : goal.returns-clause-turn
 returns-clause-turn g c =
-    subst (λ (name : List ℕ). Turn (desk_state c.args.desk.now) (Enrol name) c.submit.result (desk_state c.submit.new.self))
+    subst (λ (name : List ℕ). Outcome (desk_state c.args.desk.now) (Enrol name) c.submit.result (desk_state c.submit.new.self))
     (c.from-name.ensures ∙ (c.in-Ok.ensures.items ∙ c.as_bytes.ensures.value)) c.submit.ensures.submits.turn
 
 pub returns-clause-asked : goal.returns-clause-asked

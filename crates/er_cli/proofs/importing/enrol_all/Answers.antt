@@ -1,7 +1,7 @@
 use Rattle.std.proofs.Common.{◌≡◌, ◌+◌, ◌≤◌, None, false, arith, refl, sym, ◌∙◌, ap, subst, not, take, []}
 use Rattle.std.proofs.lemmas.List.{take_all}
 use Rattle.er_desk.specs.{Desk.desk_state, Run.{Session, no_session}}
-use Rattle.er_cli.specs.{declared.importing.Additions.Additions, Importing.{Enrols, is_stop, names_of}}
+use Rattle.er_cli.specs.{declared.importing.Additions.Additions, Importing.{Enrols, is_stop}, inside.Importing.names_of}
 use Rattle.er_cli.proofs.{Enrolling.{added, ended, found, runs_on, with_name}, importing.enrol_all.Goals.{in-Ok, in-Err}}
 use Rattle.er_cli.proofs.importing.enrol_all.Goals as goal
 

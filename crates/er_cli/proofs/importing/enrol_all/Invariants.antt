@@ -1,6 +1,6 @@
 use Rattle.std.proofs.Common.{◌+◌, ◌≤◌, IsFalse, None, take}
 use Rattle.er_desk.specs.{Asking.Asks, Desk.desk_state, Run.Session}
-use Rattle.er_cli.specs.Importing.{Enrols, names_of}
+use Rattle.er_cli.specs.{Importing.Enrols, inside.Importing.names_of}
 use Rattle.er_cli.proofs.importing.enrol_all.Given as goal
 
 abbrev pub invariant-loop-line : goal.invariant-loop-line

@@ -26,4 +26,5 @@ pub returns-in-Ok-print_line-clause-turns : goal.returns-in-Ok-print_line-clause
 returns-in-Ok-print_line-clause-turns g c = let it = c.in-Ok-serve_clients.ensures.turns in (it.0, inl (refl, it.1), it.2)
 
 pub returns-in-Err-clause-turns : goal.returns-in-Err-clause-turns
-returns-in-Err-clause-turns g c = let it = c.in-Ok-serve_clients.ensures.turns in (it.0, inr (refl, (c.args.count, omega arith, it.1)), it.2)
+returns-in-Err-clause-turns g c =
+    let it = c.in-Ok-serve_clients.ensures.turns in (it.0, inr (refl, (c.args.count, omega arith, it.1)), it.2)

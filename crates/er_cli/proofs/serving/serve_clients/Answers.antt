@@ -1,5 +1,5 @@
 use Rattle.std.proofs.Common.{◌≡◌, ℕ, ◌+◌, arith, refl, subst}
-use Rattle.er_desk.specs.{Asking.joined, Desk.desk_state}
+use Rattle.er_desk.specs.{Asking.join_sessions, Desk.desk_state}
 use Rattle.er_cli.specs.{Serving.ConnectsAll, Clients.ServesKnown}
 use Rattle.er_cli.proofs.{Connecting.connects_more, Visiting.{knew_same, knew_then, known_none, known_then}}
 use Rattle.er_cli.proofs.serving.serve_clients.Goals as goal
@@ -22,7 +22,7 @@ loop-preserved g c =
     record {
       within = omega (arith, c.loop-test.true);
       turns = (
-        joined before.0 one.0,
+        join_sessions before.0 one.0,
         connects_more c.loop.counter (desk_state first) before.0 (desk_state old) one.0 (desk_state new) before.1 one.1,
         c.asks_then.ensures first old new before.0 one.0 before.2 one.2,
       );
@@ -42,7 +42,7 @@ returns-in_default-clause-turns g c =
     let new = c.serve_next.new.desk in
     let before = c.loop.invariant.turns in
     let one = c.in_default.ensures.turns in (
-      joined before.0 one.0,
+      join_sessions before.0 one.0,
       (
         c.loop.counter + 1,
         omega (arith, c.loop-test.true),

@@ -29,7 +29,8 @@ loop-questions-preserved g c =
       omega (arith, inv.4, c.in-Ok-push.ensures.capacity),
       λ new first ends was clean.
           let last_clean = c.crash-now.ensures.clean clean in
-          let was_clean = subst (IfCleanFiles (AreClean d c.loop-questions.now.log c.loop-questions.now.db)) c.in-Ok-files.is it.ensures.clean in
+          let was_clean =
+          subst (IfCleanFiles (AreClean d c.loop-questions.now.log c.loop-questions.now.db)) c.in-Ok-files.is it.ensures.clean in
           rw c.in-Ok-push.ensures.items
           (holds_more d new c.in-Some.questions it.result.answers c.loop-questions.now it.result.files c.in-Ok-files.last c.crash-now.result
           c.in-Ok-files.is clean last_clean c.crash-now.ensures.left (λ f es. it.ensures.holds new f es) ends first
@@ -58,7 +59,8 @@ returns-in-Err-clause-holds g c new first ends was =
       files = c.loop-questions.now;
       held = inv.5 new first ends was;
       clean = subst (IfCleanFiles (AreClean d c.loop-questions.now.log c.loop-questions.now.db)) c.in-Err.is it.ensures.clean;
-      goes_on = λ so mid left may. subst (HoldsNext d new so mid c.loop-questions.now c.in-Some.questions.items it.result.answers) c.in-Err.is
+      goes_on = λ so mid left may. subst
+          (HoldsNext d new so mid c.loop-questions.now c.in-Some.questions.items it.result.answers) c.in-Err.is
           (it.ensures.holds new mid so left may);
     }
 

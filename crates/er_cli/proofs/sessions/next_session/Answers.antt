@@ -34,7 +34,7 @@ returns-in-Err-adopt-clause-holds g c new first ends was may =
 pub returns-in-Err-clause-holds : goal.returns-in-Err-clause-holds
 returns-in-Err-clause-holds g c new first ends was may = record {
   session = no_session;
-  held = tt;
+  held = λ clean. absurd clean;
   leaves = tt;
   unopened = (
     c.in-Err.error,
@@ -53,3 +53,6 @@ returns-in-Ok-adopt-clause-clean g c = ran_clean g.D.Disk c.sessions_join.ensure
 pub returns-in-Err-adopt-clause-clean : goal.returns-in-Err-adopt-clause-clean
 returns-in-Err-adopt-clause-clean g c = λ clean.
     (c.in-Ok.ensures.found (c.in-Err-adopt.ensures.left.clean (c.cut.ensures clean).was_clean)).honest
+
+pub returns-in-Err-clause-clean : goal.returns-in-Err-clause-clean
+returns-in-Err-clause-clean g c clean = absurd clean

@@ -44,8 +44,8 @@ pub returns-in_err-meetings-clause-found : goal.returns-in_err-meetings-clause-f
 returns-in_err-meetings-clause-found g c runs clean e s represents sound =
     let early = c.meetings.ensures.reads.clean clean in
     let running : IsFalse (store.needs_reopen c.tallies.new.self) = c.in_ok-tallies.ensures.reads.stops c.requires.running in
-    let here = still_represents (store.version_in c.args.store.now) (store.state g.S.Store c.args.store.now)
-    (store.state g.S.Store c.tallies.new.self) e s
+    let here = still_represents (store.store_version c.args.store.now) (store.store_state g.S.Store c.args.store.now)
+    (store.store_state g.S.Store c.tallies.new.self) e s
     (c.in_ok-tallies.ensures.reads.same early) represents in
     let p = err_from_is_err_and c.from_residual-in_err-meetings.result c.from_residual-in_err-meetings.ensures.1 in
     rw (p.1, p.2) (c.in_err-meetings.ensures.found running clean e s here sound)
@@ -105,12 +105,12 @@ returns-then-not-branch-clause-same g c clean runs = absurd (true≢false (sym c
 
 pub returns-then-not-branch-clause-found : goal.returns-then-not-branch-clause-found
 returns-then-not-branch-clause-found g c runs clean e s represents sound =
-    let late : HasCleanDisk (store.state g.S.Store c.meetings.new.self) =
+    let late : HasCleanDisk (store.store_state g.S.Store c.meetings.new.self) =
     subst (λ h. HasCleanDisk (sqlite.state g.S.Store h)) c.refuse_rows.ensures.same clean in
     let early = c.meetings.ensures.reads.clean late in
     let running : IsFalse (store.needs_reopen c.tallies.new.self) = c.in_ok-tallies.ensures.reads.stops c.requires.running in
-    let here = still_represents (store.version_in c.args.store.now) (store.state g.S.Store c.args.store.now)
-    (store.state g.S.Store c.tallies.new.self) e s
+    let here = still_represents (store.store_version c.args.store.now) (store.store_state g.S.Store c.args.store.now)
+    (store.store_state g.S.Store c.tallies.new.self) e s
     (c.in_ok-tallies.ensures.reads.same early) represents in
     let are : AreListsOf e c.as_slice.result.now c.as_slice-2.result.now = record {
       sound = sound;
@@ -133,8 +133,8 @@ pub returns-clause-found : goal.returns-clause-found
 returns-clause-found g c runs clean e s represents sound =
     let early = c.meetings.ensures.reads.clean clean in
     let running : IsFalse (store.needs_reopen c.tallies.new.self) = c.in_ok-tallies.ensures.reads.stops c.requires.running in
-    let here = still_represents (store.version_in c.args.store.now) (store.state g.S.Store c.args.store.now)
-    (store.state g.S.Store c.tallies.new.self) e s
+    let here = still_represents (store.store_version c.args.store.now) (store.store_state g.S.Store c.args.store.now)
+    (store.store_state g.S.Store c.tallies.new.self) e s
     (c.in_ok-tallies.ensures.reads.same early) represents in
     let are : AreListsOf e c.as_slice-3.result.now c.as_slice-4.result.now = record {
       sound = sound;

@@ -1,4 +1,4 @@
-use Rattle.er_event.proofs.Prelude.{following, scored_slot, stage_of, with_bracket_score, with_phase, EventValue, IsSoundButForSeeds}
+use Rattle.er_event.proofs.Prelude.{stage_after, scored_slot, stage_of, with_bracket_score, with_phase, EventValue, IsSoundButForSeeds}
 use Rattle.er_event.proofs.Prelude.{AddBracket, AddRound, SetBracketScore, SetDropped, SetScore, Phase, Enrolling, Swiss, Match, Bool, List}
 use Rattle.er_event.proofs.Prelude.{Option, ap, arith, length, not, subst, sym, ◌≡◌, ◌≤◌}
 use Rattle.er_event.proofs.{AddLemmas.IsSound-round, DropLemmas.IsSound-dropped, PlayerLemmas.IsSound-with, PlayoffLemmas.opening-fits}
@@ -29,7 +29,7 @@ keeps e (AddBracket matches) h opens = (opening-fits e matches h opens).sound
 keeps e (SetBracketScore stage slot score next finished) h (m, at, free, lawful, follows, over) =
     let played = scored_slot (stage_of e.bracket.stages stage) slot score in
     subst (λ (o : Option (List Match)). IsSoundButForSeeds (with_bracket_score e stage slot score o finished)) (sym follows)
-    (subst (λ (b : Bool). IsSoundButForSeeds (with_bracket_score e stage slot score (following played) b)) (sym over)
+    (subst (λ (b : Bool). IsSoundButForSeeds (with_bracket_score e stage slot score (stage_after played) b)) (sym over)
     (Fits-open e stage slot score m at h free lawful).sound)
 
 pub returns : goal.returns

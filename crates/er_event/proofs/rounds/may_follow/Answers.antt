@@ -1,9 +1,9 @@
-use Rattle.er_event.proofs.Prelude.{is_counted, arith, sym, ◌∙◌, common_steps}
+use Rattle.er_event.proofs.Prelude.{is_complete, arith, sym, ◌∙◌, common_steps}
 use Rattle.er_event.proofs.{AddLemmas.{All-new, new-All}, RoundLemmas.{All-of, of-All}}
 use Rattle.er_event.proofs.rounds.may_follow.Goals as goal
 
 pub returns-then-not-are_counted : goal.returns-then-not-are_counted
-returns-then-not-are_counted c = grind (arith, common_steps, is_counted, of-All)
+returns-then-not-are_counted c = grind (arith, common_steps, is_complete, of-All)
 
 pub returns-then-not-is_round : goal.returns-then-not-is_round
 returns-then-not-is_round c = grind arith

@@ -1,4 +1,5 @@
-use Rattle.er_event.proofs.Prelude.{Round, rescored, [], arith, get_or, length, ap, cond, rules, true, false, Bool, ℕ, ◌≤◌, ◌+◌, ◌<◌, ◌∙◌}
+use Rattle.er_event.proofs.Prelude.{Round, rounds_with_score, [], arith, get_or, length, ap, cond, rules, true, false, Bool, ℕ, ◌≤◌, ◌+◌}
+use Rattle.er_event.proofs.Prelude.{◌<◌, ◌∙◌}
 use Rattle.er_event.proofs.Prelude.{◌≡◌}
 use Rattle.er_event.proofs.Prelude.{get_or_default}
 use Rattle.er_event.proofs.{MissedLemmas.complete-more, TotalLemmas.rescored-length}
@@ -11,7 +12,7 @@ at_most false = omega arith
 pub loop-at-preserved : goal.loop-at-preserved
 loop-at-preserved c =
     let new = c.args.new.now in
-    let rounds = rescored c.args.rounds.now new.place new.table new.score in
+    let rounds = rounds_with_score c.args.rounds.now new.place new.table new.score in
     let i = c.loop-at.at in
     let r : Round = get_or rounds i (record { matches = [] }) in
     let size = rescored-length c.args.rounds.now new.place new.table new.score in

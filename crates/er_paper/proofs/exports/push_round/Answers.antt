@@ -2,7 +2,7 @@ use Rattle.std.proofs.{lemmas.Grind.common_steps, Common.{◌++◌, flat_map, ta
 use Rattle.std.proofs.lemmas.List.{take_all}
 use Rattle.er_event.specs.Round.{numbered_from}
 use Rattle.er_paper.proofs.{PairingLemmas.lines-more, Rows.{result_row, rows-of-round}}
-use Rattle.er_paper.specs.inside.Writer.{written}
+use Rattle.er_paper.specs.inside.Writer.{written_bytes}
 use Rattle.er_paper.proofs.exports.push_round.Goals as goal
 
 pub loop-place-preserved : goal.loop-place-preserved
@@ -11,7 +11,7 @@ loop-place-preserved c =
     let place = c.loop-place.place in
     let matches = c.args.matches.now in
     let m = c.index-matches-place.result in
-    let before = written c.args.table.now in
+    let before = written_bytes c.args.table.now in
     let rows = flat_map row (numbered_from 1 (take place matches)) in
     record {
       plain = c.in_ok-push_result.ensures.plain;

@@ -1,7 +1,7 @@
 use Rattle.std.proofs.Common.{◌≡◌, ℕ, Bool, List, Ok, Err, sym, ap, subst, ◌∙◌}
 use Rattle.er_event.specs.{declared.changes.Change.TheVariants.AddRound, declared.commands.Command.TheVariants.Pair}
 use Rattle.er_event.specs.{declared.matches.Match.Match, Change.{with_round, Fits}}
-use Rattle.er_pair.specs.{declared.pairings.PairFault.TheVariants.NoPairing, Fault.refusal_of, Met.{has_met, have_met}, Order.seed_words}
+use Rattle.er_pair.specs.{declared.pairings.PairFault.TheVariants.NoPairing, Fault.pair_refusal, Met.{has_met, have_met}, Order.seed_words}
 use Rattle.er_pair.specs.Pairing.{IsLegal}
 use Rattle.er_event.specs.Round.{tables_of}
 use Rattle.er_rules.specs.Step.{Answers}
@@ -25,7 +25,7 @@ returns-in_err-pairs-clause-refused c =
     let order = c.in_ok-order.order.items in
     let of_order = c.in_ok-order.ensures in
     let refused = c.from_residual-in_err-pairs in
-    let said = err_is refused.result (refusal_of fault) refused.ensures.1 in
+    let said = err_is refused.result (pair_refusal fault) refused.ensures.1 in
     let NoneOf : (ℕ → ℕ → Bool) → List ℕ → Type 0 = λ m o. ((pairs : List pairing.Pair) → IsLegal m o pairs → ⊥) in
     let none : c.first_pairing.result ≡ Err NoPairing → NoneOf (have_met e) order = λ is.
     subst (λ (m : ℕ → ℕ → Bool). NoneOf m order) c.in_ok-met.ensures

@@ -1,7 +1,7 @@
 use Rattle.std.proofs.{lemmas.Grind.common_steps, Common.{◌≡◌, ◌≤◌, ℕ, ◌-◌, List, All, IfSome, IsTrue, length, get_or, sym, ap, subst, ◌∙◌}}
 use Rattle.std.proofs.{Common.arith, lemmas.List.length-set}
 use Rattle.er_event.specs.{declared.changes.Change.TheVariants.SetBracketScore, declared.matches.Match.Match, declared.scores.Games.Games}
-use Rattle.er_event.specs.{Score.is_playoff_score, Bracket.{following, is_over}, Change.{stage_of, scored_slot}}
+use Rattle.er_event.specs.{Score.is_playoff_score, Bracket.{stage_after, is_over}, Change.{stage_of, scored_slot}}
 use Rattle.er_rules.specs.Step.{scored_at}
 use Rattle.er_rules.proofs.{Playing.{IsSlots, low_stage, high_stage, slots, lawful}, playoff.decide_playoff.Goals.In_ok-scored}
 use Rattle.er_rules.proofs.playoff.decide_playoff.Goals as goal
@@ -43,7 +43,7 @@ stage_after-requires c =
 change : (c : goal.After-drop-scored-inside-2) → c.in_ok-scored.scored ≡ scored_at c.args.event.now c.args.stage c.args.slot c.args.games
     → SetBracketScore c.args.stage c.args.slot c.in_ok-score.score c.in_ok-next.next c.is_over-finished.result
     ≡ SetBracketScore c.args.stage c.args.slot c.args.games
-    (following (scored_at c.args.event.now c.args.stage c.args.slot c.args.games))
+    (stage_after (scored_at c.args.event.now c.args.stage c.args.slot c.args.games))
     (is_over (scored_at c.args.event.now c.args.stage c.args.slot c.args.games))
 change c scored = grind (arith, common_steps)
 

@@ -2,7 +2,7 @@ use Rattle.er_store.proofs.Prelude.{ℕ, List, Result, Ok, Err, IsOk, inl, inr, 
 use Rattle.er_store.proofs.Prelude.{state}
 use Rattle.er_store.proofs.Prelude.{Schema, Database, IsUnchanged, Compiled, CompileError, EventValue, HasCleanDisk, HasTablesAt, Layout}
 use Rattle.er_store.proofs.Prelude.{HasTables, Represents, RepresentsAt, RepresentsIn, IsSoundButForSeeds}
-use Rattle.er_store.proofs.Prelude.{Shows, Takes, unchanged_then}
+use Rattle.er_store.proofs.Prelude.{RepresentsNow, TakesParameters, unchanged_then}
 use Rattle.sqlite.specs.Effect.{IsDatabase}
 use Rattle.er_store.specs.{Loading.HoldsEvent, Representing.ReadsEvent}
 use Rattle.er_store.proofs.{Meaning.event_selected, Effects.at_ours}
@@ -11,7 +11,7 @@ use Rattle.er_store.proofs.Crash.{shows_leaves_in, survives_both, only, was_clea
 use Rattle.er_store.proofs.Store.adopt.Given as given
 use Rattle.er_store.proofs.Store.adopt.Goals as goal
 
-takes_ok : (n : ℕ) (sql : List ℕ) (r : Result Compiled CompileError) → Takes n sql r → IsOk r
+takes_ok : (n : ℕ) (sql : List ℕ) (r : Result Compiled CompileError) → TakesParameters n sql r → IsOk r
 takes_ok n sql (Ok c) takes = refl
 takes_ok n sql (Err e) takes = absurd takes
 
@@ -27,7 +27,7 @@ same g c clean = c.in-Ok-true.ensures.looks.same (c.load_tables.ensures.looks.cl
 -- a connection that saw the last commit, and sees the same
 shown : (g : given.Over) (c : goal.After-result-1 g) → HasCleanDisk (state g.S.Store c.load_tables.new.conn)
     → IsUnchanged (state g.S.Store c.reads_event.new.conn) (state g.S.Store c.load_tables.new.conn) → (v : ℕ) (e : EventValue) (s : ℕ)
-    → RepresentsIn v (state g.S.Store c.args.conn).now e s → Shows v (state g.S.Store c.load_tables.new.conn) e s
+    → RepresentsIn v (state g.S.Store c.args.conn).now e s → RepresentsNow v (state g.S.Store c.load_tables.new.conn) e s
 shown g c clean second v e s represents =
     let first = same g c clean in
     let seen = c.sees_last_commit.ensures c.requires.mode first.0.was_open in
@@ -109,7 +109,7 @@ returns-in-Ok g c =
     λ clean l e s represents. subst (λ (d : Database). RepresentsAt l d e s) (sym (same g c clean).0.now_is) represents in
     let sees : (clean : HasCleanDisk (state g.S.Store c.load_tables.new.conn)) (e : EventValue) (s : ℕ) → Represents db e s
     → IsSoundButForSeeds e → (c.in-Ok.event ≡ e) × (c.in-Ok.serial ≡ s)
-    × Shows c.in-Ok.version (state g.S.Store c.load_tables.new.conn) e s =
+    × RepresentsNow c.in-Ok.version (state g.S.Store c.load_tables.new.conn) e s =
     λ clean e s represents sound.
     let is = loaded.found clean represents.0 e s (at clean represents.0 e s represents.1) sound in
     let here : RepresentsIn c.in-Ok.version db e s =

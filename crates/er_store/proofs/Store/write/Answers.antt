@@ -1,10 +1,11 @@
 use Rattle.er_store.proofs.Prelude.{◌≡◌, refl, rules, List, [], ◌∷◌, Trees, Table, Database, KeepsOthers, IsOther, Layout, ℕ}
-use Rattle.er_store.proofs.Prelude.{HasCleanDisk, KeepsTables, Err, EventValue, Ghosts, Held, IsFault, IsStoredIn, Shows, IsTrue, IsFalse}
+use Rattle.er_store.proofs.Prelude.{HasCleanDisk, KeepsTables, Err, EventValue, Ghosts, Held, IsFault, IsStoredIn, RepresentsNow, IsTrue}
+use Rattle.er_store.proofs.Prelude.{IsFalse}
 use Rattle.er_store.proofs.Prelude.{◌+◌, ◌∙◌, true≢false, sym, subst}
 use Rattle.er_event.specs.declared.refusals.Refusal.{Refusal}
 use Rattle.sqlite.specs.Held as sqlite
 use Rattle.sqlite.specs.declared.error.Error.{Error}
-use Rattle.er_store.specs.{Calls.WritesChange, Representing.{Either, Leaves}, inside.Looking.Transacts}
+use Rattle.er_store.specs.{Calls.WritesChange, Representing.{Either, AfterCrash}, inside.Looking.Transacts}
 use Rattle.er_store.specs.declared.Store.{Store}
 use Rattle.er_store.specs.Store as store
 use Rattle.std.specs.List.{AllByRecursion}
@@ -41,16 +42,16 @@ returns-in-Ok g c =
 failed_writes : {S : Type 0} (g : Ghosts S) {e next : EventValue} {serial : ℕ} (old new : Store S g) (conn : Held S) {why : Refusal}
     {error : Error}
     → Transacts {A = Unit {0}} g (store.connection old) (Err error) conn
-    → (Shows (store.version_in old) (store.state g old) e serial → Leaves (sqlite.state g conn)
-    (Either (IsStoredIn (store.version_in old) e serial) (IsStoredIn (store.version_in old) next (serial + 1))))
+    → (RepresentsNow (store.store_version old) (store.store_state g old) e serial → AfterCrash (sqlite.state g conn)
+    (Either (IsStoredIn (store.store_version old) e serial) (IsStoredIn (store.store_version old) next (serial + 1))))
     → IsFalse (store.needs_reopen old) → store.connection new ≡ conn → IsFault why → IsTrue (store.needs_reopen new)
-    → store.version_in new ≡ store.version_in old
+    → store.store_version new ≡ store.store_version old
     → WritesChange g e next serial old (Err why) new
 failed_writes g old new conn failed crash runs same fault stopped version =
-    let late : HasCleanDisk (store.state g new) → HasCleanDisk (sqlite.state g conn) =
+    let late : HasCleanDisk (store.store_state g new) → HasCleanDisk (sqlite.state g conn) =
     subst (λ (h : Held _). HasCleanDisk (sqlite.state g h)) same in
-    let keeps : HasCleanDisk (store.state g new) → KeepsTables (store.state g old) (store.state g new) =
-    λ clean. subst (λ (h : Held _). KeepsTables (store.state g old) (sqlite.state g h)) (sym same) (failed.kept (late clean)) in
+    let keeps : HasCleanDisk (store.store_state g new) → KeepsTables (store.store_state g old) (store.store_state g new) =
+    λ clean. subst (λ (h : Held _). KeepsTables (store.store_state g old) (sqlite.state g h)) (sym same) (failed.kept (late clean)) in
     record {
       waits = λ stopped. absurd (true≢false (sym stopped ∙ runs));
       stops = λ runs. (fault, stopped);

@@ -1,4 +1,4 @@
-use Rattle.er_store.proofs.Prelude.{rules, refl, ap, sym, ◌∙◌, ◌≡◌, EventTable, PlayerTable, PairingTable, BracketTable, players_text}
+use Rattle.er_store.proofs.Prelude.{rules, refl, ap, sym, ◌∙◌, ◌≡◌, EventTable, PlayerTable, PairingTable, BracketTable, read_players_of}
 use Rattle.er_store.proofs.Prelude.{List, Layout}
 use Rattle.er_store.proofs.Prelude.{version_of, Database, EventValue, IsSoundButForSeeds, RepresentsAt, ℕ, read_event}
 use Rattle.er_event.specs.declared.rows.event.EventRow.{EventRow}
@@ -38,7 +38,7 @@ returns-in_err-players g c =
     (rw (c.said_version-version.ensures, c.as_slice.ensures) at c.in_err-players.ensures) in
     missed_as (search rules) (λ db miss. first_misread PlayerTable db c.in_err-players.field-0.0
     (λ bad. (c.in_ok-event.event, miss.0.reads, tt, bad)) miss.1.misread
-    (λ e s represents sound. miss.1.refused represents.0 (ap players_text (sym (said miss.0 represents.0 e s represents.1 sound))) e s
+    (λ e s represents sound. miss.1.refused represents.0 (ap read_players_of (sym (said miss.0 represents.0 e s represents.1 sound))) e s
     represents.1 sound)) look
 
 pub returns-in_err-pairings : goal.returns-in_err-pairings
@@ -71,13 +71,13 @@ returns g c =
       reads = record { event = it.0.reads; players = it.1.0.reads; pairings = it.1.1.0.reads; bracket = it.1.1.1.reads };
       lists = λ l is has. record {
         event = it.0.lists l refl has;
-        players = it.1.0.lists l (ap players_text (sym is)) has;
+        players = it.1.0.lists l (ap read_players_of (sym is)) has;
         pairings = it.1.1.0.lists l refl has;
         bracket = it.1.1.1.lists l refl has;
       };
       exact = λ l e s represents sound.
           let event = it.0.exact l refl e s represents sound in
-          let players = it.1.0.exact l (ap players_text (sym (said it.0 l e s represents sound))) e s represents sound in
+          let players = it.1.0.exact l (ap read_players_of (sym (said it.0 l e s represents sound))) e s represents sound in
           let pairings = it.1.1.0.exact l refl e s represents sound in
           let bracket = it.1.1.1.exact l refl e s represents sound in
           cc;

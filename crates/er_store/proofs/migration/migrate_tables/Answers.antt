@@ -2,13 +2,13 @@ use Rattle.er_store.proofs.Prelude.{inl, rules, true, ◌≡◌, ℕ, on_ok_weak
 use Rattle.er_store.proofs.Prelude.{true≢false}
 use Rattle.er_store.proofs.{Lending.{on_ok_later, dropped, committed}, Crash.{was_clean, survives_both}}
 use Rattle.er_store.proofs.{Crash.{shows_leaves_in, leaves_old}, MovedCrash.{moved_written, moved_leaves}, Layouts.in_first}
-use Rattle.er_store.specs.{Migrated.MayMigrate, inside.Moving.IsMoved}
+use Rattle.er_store.specs.{Migrated.IsVersion1Alone, inside.Moving.IsMoved}
 use Rattle.er_store.proofs.migration.migrate_tables.Given as given
 use Rattle.er_store.proofs.migration.migrate_tables.Goals as goal
 
 -- the move went well, as it did where the commit is reached
 moved : (g : given.Over) (c : goal.After-conn-2-1 g) → HasCleanDisk (state g.S.Store c.commit.new.self.0) → (s : ℕ)
-    → MayMigrate (state g.S.Store c.args.conn.now) c.args.event.now s
+    → IsVersion1Alone (state g.S.Store c.args.conn.now) c.args.event.now s
     → IsMoved (state g.S.Store c.move_players.new.tx.conn.now) c.args.event.now s
 moved g c late s may =
     let moves = rw c.transaction-tx.ensures.begun at c.in_ok-move_players.ensures.moves in

@@ -1,28 +1,28 @@
 use Rattle.er_store.proofs.Prelude.{map-map, ◌≡◌, inl, inr, ℕ, List, [], ◌∷◌, map, ap, ◌∙◌, rules, IfOk-weaker, IfErr-weaker, Row, State}
-use Rattle.er_store.proofs.Prelude.{EventValue, IsSoundButForSeeds, number, named_columns, named_pairings, first_columns}
+use Rattle.er_store.proofs.Prelude.{EventValue, IsSoundButForSeeds, number_value, named_columns, named_pairings, first_columns}
 use Rattle.er_store.proofs.Prelude.{Shown, Layout, players_tree, HasTablesAt}
 use Rattle.er_store.proofs.Prelude.{Schema, SelectsWith}
 use Rattle.er_store.proofs.{Meaning.{slip_selected, slip_query}, Refusals.{slip_refused, answers}}
 use Rattle.er_store.proofs.{Crash.was_clean, Lending.no_ok, LoadLemmas.{unchanged_keeps, all_ok, all_err, told}}
 use Rattle.er_store.proofs.{Selecting.{commits_nothing, shows_unchanged, fails_keeping, slip_selects}, Exact.is_memory, Joined.slip_exact}
 use Rattle.er_store.proofs.{Joined.named_typed, Effects.selected}
-use Rattle.er_store.proofs.Prelude.{RepresentsIn, Database, slip_text, version_of, subst}
+use Rattle.er_store.proofs.Prelude.{RepresentsIn, Database, read_slip_of, version_of, subst}
 use Rattle.er_store.proofs.reading.read_slip.Goals as goal
 
 chosen : (k t : ℕ) (l : Layout) {schema : Schema} → HasTablesAt l schema
-    → SelectsWith (number k ∷ number t ∷ []) (slip_text (version_of l)) (slip_query (players_tree l)) schema
+    → SelectsWith (number_value k ∷ number_value t ∷ []) (read_slip_of (version_of l)) (slip_query (players_tree l)) schema
 chosen k t l has = selected has (λ others indexes views. slip_selected others indexes views k t l)
 
 -- in tables of this version
 chosen_in : (k t v s : ℕ) (e : EventValue) (db : Database) (represents : RepresentsIn v db e s)
-    → SelectsWith (number k ∷ number t ∷ []) (slip_text v) (slip_query (players_tree represents.layout)) db.schema
+    → SelectsWith (number_value k ∷ number_value t ∷ []) (read_slip_of v) (slip_query (players_tree represents.layout)) db.schema
 chosen_in k t v s e db represents =
-    subst (λ version. SelectsWith (number k ∷ number t ∷ []) (slip_text version)
+    subst (λ version. SelectsWith (number_value k ∷ number_value t ∷ []) (read_slip_of version)
     (slip_query (players_tree represents.layout)) db.schema) represents.is
     (chosen k t represents.layout represents.represents.has.tables)
 
 exact : (k t v s : ℕ) (e : EventValue) (old new : State) {rows : List Row} → RepresentsIn v old.now e s → IsSoundButForSeeds e
-    → Shown (slip_text v) (number k ∷ number t ∷ []) old new rows → rows ≡ map named_columns (named_pairings e k t)
+    → Shown (read_slip_of v) (number_value k ∷ number_value t ∷ []) old new rows → rows ≡ map named_columns (named_pairings e k t)
 exact k t v s e old new {rows} represents sound h =
     slip_exact represents.layout old.now e s k t rows represents.represents sound
     (answers old new (chosen_in k t v s e old.now represents) h)
@@ -43,7 +43,7 @@ returns-in_err-rows-clause-refused g c clean e s represents sound =
     let t = c.args.table in
     let fails = rw (c.slip_text.ensures, c.params-to_sql.ensures, c.params-to_sql-2.ensures) at (c.in_err-rows.ensures.err clean) in
     told c.from_residual.result c.in_err-rows.field-0.0 _ (search rules) (inr (slip_refused (players_tree represents.layout)
-    (number k ∷ number t ∷ []) _ _ _ (chosen_in k t c.args.version s e _ represents) fails))
+    (number_value k ∷ number_value t ∷ []) _ _ _ (chosen_in k t c.args.version s e _ represents) fails))
 
 pub returns : goal.returns
 returns g c =

@@ -1,5 +1,5 @@
 use Rattle.er_store.proofs.Prelude.{◌≡◌, ◌∙◌, tallies, subst, sym, ap, refl, Err, Database}
-use Rattle.er_store.proofs.Prelude.{RepresentsAt, players_text}
+use Rattle.er_store.proofs.Prelude.{RepresentsAt, read_players_of}
 use Rattle.er_store.proofs.{Lending.{looks_on, looks_as, looks_fail}, Tallying.memory-fault}
 use Rattle.er_store.proofs.TableLemmas.{player_is_ours, tally_is_ours}
 use Rattle.er_store.proofs.tallies.find_tallies.Goals as goal
@@ -17,7 +17,7 @@ returns-clause-found g c clean e s represents sound =
     let here = subst (λ (d : Database). RepresentsAt l d e s) (sym (c.in-Ok.ensures.looks.same early).0.now_is) represents.represents in
     memory-fault c.tallies_of.result (λ list. list.items ≡ tallies e)
     (c.tallies_of.ensures.event e sound (c.as_slice.ensures.value ∙ (c.in-Ok.ensures.finds early).exact l
-    (ap players_text represents.is) e s represents.represents sound)
+    (ap read_players_of represents.is) e s represents.represents sound)
     (c.as_slice-2.ensures.value ∙ (c.in-Ok-read_table.ensures.finds clean).exact l refl e s here sound))
 
 pub returns-clause-looks : goal.returns-clause-looks

@@ -1,5 +1,5 @@
 use Rattle.er_store.proofs.Prelude.{◌∙◌, map, sym, ap, ap₂, filter, List, All, Option, ℤ, subst, take_all, none-some, meetings, MeetingRow}
-use Rattle.er_store.proofs.Prelude.{is_outside, counted_rows, sides_in}
+use Rattle.er_store.proofs.Prelude.{is_outside, complete_rows, sides_in}
 use Rattle.er_store.proofs.Meetings.{meetings-counted, meetings-same, IsMeetingRow, all-show}
 use Rattle.er_store.proofs.tallies.meetings_of.Goals as goal
 
@@ -15,4 +15,4 @@ returns-clause-event c e sound rows =
     meetings-same c.loop-row.meetings.items (meetings e) (c.loop-row.invariant
     ∙ (ap₂ (λ (o : Option ℤ) (rs : List MeetingRow). map sides_in (filter (is_outside o) rs)) c.open_round-unfinished.ensures
     (take_all c.loop-row.row-index all c.loop-row-test.false)
-    ∙ (ap (λ (rs : List MeetingRow). map sides_in (counted_rows rs)) rows ∙ meetings-counted e sound)))
+    ∙ (ap (λ (rs : List MeetingRow). map sides_in (complete_rows rs)) rows ∙ meetings-counted e sound)))

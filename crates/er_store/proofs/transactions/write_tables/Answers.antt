@@ -1,5 +1,5 @@
 use Rattle.er_store.proofs.Prelude.{inl, rules, subst, sym, true, ◌+◌, ◌≡◌, on_ok_weaker, HasCleanDisk}
-use Rattle.er_store.proofs.Prelude.{state, after, Shows}
+use Rattle.er_store.proofs.Prelude.{state, after, RepresentsNow}
 use Rattle.er_store.proofs.Prelude.{KeepsOthers, KeepsRest, IsReady, Layout, version_of, HasTablesAt, Database}
 use Rattle.er_store.proofs.Layouts.{one_layout}
 use Rattle.er_store.proofs.{Lending.{on_ok_later, dropped, committed}, Crash.{was_clean, survives_both, leaves_old, written}}
@@ -16,7 +16,7 @@ rest_kept l {old} {new} has keeps = record {
 
 -- the change went well, as it did where the commit is reached
 ready : (g : given.Over) (c : goal.After-conn-2-1 g) → HasCleanDisk (state g.S.Store c.commit.new.self.0)
-    → Shows c.args.version (state g.S.Store c.args.conn.now) c.args.event.now c.args.serial
+    → RepresentsNow c.args.version (state g.S.Store c.args.conn.now) c.args.event.now c.args.serial
     → IsReady c.args.version (state g.S.Store c.change_event.new.tx.conn.now) (after c.args.event.now c.args.change.now) (c.args.serial + 1)
     × KeepsOthers c.args.version (state g.S.Store c.args.conn.now).now (state g.S.Store c.change_event.new.tx.conn.now).now
 ready g c late was =

@@ -58,10 +58,11 @@ returns-in-Ok-true g c =
           let found = opened.found clean event serial either sound.but_for_seeds in
           let version = opened.version clean event serial placed.version represents sound.but_for_seeds in
           record {
-            found = placed_is placed c.in_ok-store.event c.in_ok-store.serial (tables.version_in c.in_ok-store.store) found.0 found.1
+            found = placed_is placed c.in_ok-store.event c.in_ok-store.serial (tables.store_version c.in_ok-store.store) found.0 found.1
                 version;
-            shows = shows_as (tables.version_in c.in_ok-store.store)
-                (tables.state g.S.Store c.in_ok-store.store) event c.in_ok-store.event serial c.in_ok-store.serial found.0 found.1 found.2;
+            shows = shows_as (tables.store_version c.in_ok-store.store)
+                (tables.store_state g.S.Store c.in_ok-store.store) event c.in_ok-store.event serial c.in_ok-store.serial
+                found.0 found.1 found.2;
             leaves = λ late trees may.
                 subst (λ (v : ℕ). IsStoredIn v event serial trees) version
                 (opened.leaves event serial either sound.but_for_seeds late trees may);
@@ -69,7 +70,7 @@ returns-in-Ok-true g c =
       seeds = λ point represents sound none clean.
           none (subst HasSeeds (opened.found clean point.event point.serial represents sound).0 seeds);
       same = opened.same;
-      left = unchanged_leaves_all (state g.S.Store c.args.conn) (tables.state g.S.Store c.in_ok-store.store)
+      left = unchanged_leaves_all (state g.S.Store c.args.conn) (tables.store_state g.S.Store c.in_ok-store.store)
           (λ db is_open may. g.met.S.Store.settled c.args.conn.store db is_open may) opened.clean opened.crash opened.same;
     }
 
@@ -92,7 +93,7 @@ gives_back g old it back opened settled unseeded same mode =
             readable = λ place is. read_whole old.now _ reads.0;
             first = λ place is. inr (
               same_place _ _ (sym is),
-              (it.1, it.2, tables.version_in it.0, reads.0, reads.1, opened.sound, opened.low, unseeded),
+              (it.1, it.2, tables.store_version it.0, reads.0, reads.1, opened.sound, opened.low, unseeded),
             );
           };
       found = λ point represents sound clean.
@@ -100,7 +101,7 @@ gives_back g old it back opened settled unseeded same mode =
           absurd (unseeded (subst HasSeeds (sym found.0) sound.seeds));
       other_seeds = λ point represents sound none clean. inr refl;
       left = back_leaves_all g old back it.0 same
-          (unchanged_leaves_all old (tables.state g it.0) settled opened.clean opened.crash opened.same);
+          (unchanged_leaves_all old (tables.store_state g it.0) settled opened.clean opened.crash opened.same);
     }
 
 pub returns-in-Ok-false : goal.returns-in-Ok-false
@@ -122,6 +123,6 @@ returns-in-Err g c =
       other_seeds = λ point represents sound none clean. inl (inl refl);
       left = back_leaves_all g.S.Store (state g.S.Store c.args.conn) c.into_connection-in-Err.result c.in_ok-store.store
           c.into_connection-in-Err.ensures.same
-          (unchanged_leaves_all (state g.S.Store c.args.conn) (tables.state g.S.Store c.in_ok-store.store)
+          (unchanged_leaves_all (state g.S.Store c.args.conn) (tables.store_state g.S.Store c.in_ok-store.store)
           (λ db is_open may. g.met.S.Store.settled c.args.conn.store db is_open may) opened.clean opened.crash opened.same);
     }

@@ -2,9 +2,9 @@ use Rattle.std.proofs.Common.{◌≡◌, ◌⊎◌, inl, inr, ℕ, List, refl, s
 use Rattle.std.proofs.lemmas.{Option.none-some, Result.err_from_is_err_and}
 use Rattle.sqlite.specs.{Held.state, Tree.Trees}
 use Rattle.er_event.specs.declared.refusals.Refusal.{Refusal, TheVariants.{BadSetup, EventExists}}
-use Rattle.er_event.specs.{Event.EventValue, Change.created, Sound.IsSoundButForSeeds}
+use Rattle.er_event.specs.{Event.EventValue, Change.initial_event, Sound.IsSoundButForSeeds}
 use Rattle.er_rules.specs.Sound.{IsSound, HasSeeds}
-use Rattle.er_store.specs.{Beside.{IsStoredBeside, ShowsBeside}, Fault.IsFault, Representing.{IsStoredIn, Shows}}
+use Rattle.er_store.specs.{Beside.{IsStoredBeside, HoldsBeside}, Fault.IsFault, Representing.{IsStoredIn, RepresentsNow}}
 use Rattle.er_store.specs.Store as tables
 use Rattle.er_desk.proofs.Turns.{same_keeps, desk_state_same}
 use Rattle.er_desk.proofs.desk.Desk.create.Goals as goal
@@ -18,7 +18,7 @@ not_setup why (inr (inl memory)) is = cc
 not_setup why (inr (inr refused)) is = cc
 
 -- a new event has no playoff
-new_sound : (name : List ℕ) (rounds cut : ℕ) (event : EventValue) → event ≡ created name rounds cut → IsSoundButForSeeds event
+new_sound : (name : List ℕ) (rounds cut : ℕ) (event : EventValue) → event ≡ initial_event name rounds cut → IsSoundButForSeeds event
     → IsSound event
 new_sound name rounds cut event is sound = record {
   but_for_seeds = sound;
@@ -48,7 +48,7 @@ returns-in_err-store g c =
     let p = err_from_is_err_and c.from_residual.result c.from_residual.ensures.1 in
     let failed = c.in_err-store.ensures in
     let stored = λ (trees : Trees) (made : IsStoredIn 2 c.in-Ok.event 0 trees). (let new : IsStoredIn 2
-    (created c.args.name c.args.rounds c.args.cut) 0 trees =
+    (initial_event c.args.name c.args.rounds c.args.cut) 0 trees =
     subst (λ (e : EventValue). IsStoredIn 2 e 0 trees) c.in-Ok.ensures.value made in new) in
     rw (p.1, p.2) (record {
       mode = failed.mode;
@@ -90,11 +90,11 @@ returns g c =
       clean = made.clean;
       absent = λ clean. (made.absent clean).0;
       beside = λ clean.
-          subst (λ (e : EventValue). ShowsBeside 2 e (state g.S.Store c.args.conn).now (tables.state g.S.Store c.in_ok-store.store))
+          subst (λ (e : EventValue). HoldsBeside 2 e (state g.S.Store c.args.conn).now (tables.store_state g.S.Store c.in_ok-store.store))
           c.in-Ok.ensures.value (made.beside clean);
       alone = made.alone;
       created = λ clean none.
-          subst (λ (v : ℕ). Shows v (tables.state g.S.Store c.in_ok-store.store) c.in-Ok.event 0) (sym made.version)
+          subst (λ (v : ℕ). RepresentsNow v (tables.store_state g.S.Store c.in_ok-store.store) c.in-Ok.event 0) (sym made.version)
           (made.created clean none);
       acknowledged = λ none clean trees may.
           subst (λ (e : EventValue). IsStoredIn 2 e 0 trees) c.in-Ok.ensures.value (made.acknowledged none clean trees may);

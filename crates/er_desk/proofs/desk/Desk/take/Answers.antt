@@ -1,5 +1,5 @@
 use Rattle.std.proofs.Common.{◌≡◌, ◌<◌, ◌∙◌, inl, inr, IfErr, IsFalse, refl, sym, ap, arith, true≢false}
-use Rattle.er_desk.specs.{Desk.{ShowsOwn, Turn, placed_of, desk_state, state}, Headline.{LeavesJust, LeavesEither}}
+use Rattle.er_desk.specs.{Desk.{HoldsOwnEvent, Outcome, placed_of, desk_state, state}, Headline.{RecoversJust, RecoversEither}}
 use Rattle.er_desk.proofs.{Asking.{command_asks, refused_submits}, Turns.{declined, full, too_late, written, turn_fault, turn_asks}}
 use Rattle.er_desk.proofs.Turns.{waits_of, stops_of, stopped_of, same_unless, represents_after, leaves_refused}
 use Rattle.er_desk.proofs.desk.Desk.take.Goals as goal
@@ -58,16 +58,16 @@ returns g c =
     let runs = sym c.needs_reopen.ensures ∙ c.if-needs_reopen.false in
     let room : desk.serial < 999999 = omega (arith, desk.low, c.if-self-eq-MAX_SERIAL.false) in
     let taken = c.in_ok-change.ensures.taken.1 in
-    let left : ShowsOwn g.S.Store desk → LeavesJust (state g.S.Store desk) (placed_of (desk_state desk)) =
+    let left : HoldsOwnEvent g.S.Store desk → RecoversJust (state g.S.Store desk) (placed_of (desk_state desk)) =
     c.shown_is_stored.ensures _ _ _ in
-    let turn : Turn (desk_state desk) command c.write.result (desk_state new) =
+    let turn : Outcome (desk_state desk) command c.write.result (desk_state new) =
     written (desk_state desk) runs command (desk_state new) c.write.result _ (new ≡ desk) (λ same. ap desk_state same) taken
     room (rw c.version.ensures.value at (sym c.is_late.ensures ∙ c.if-is_late.false)) wrote.taken wrote.refused in
-    let undecided : IsFalse (desk_state desk).needs_reopen → ShowsOwn g.S.Store desk
-    → LeavesEither (state g.S.Store new) (placed_of (desk_state desk)) command =
+    let in_doubt : IsFalse (desk_state desk).needs_reopen → HoldsOwnEvent g.S.Store desk
+    → RecoversEither (state g.S.Store new) (placed_of (desk_state desk)) command =
     λ runs shows clean trees may. elim (wrote.crash shows clean trees may) [ inl old ↦ inl old | inr new ↦ inr (_, taken, new) ] in
-    let refused : ShowsOwn g.S.Store desk
-    → IfErr c.write.result (λ _. IsFalse (desk_state new).needs_reopen → LeavesJust (state g.S.Store new) (placed_of (desk_state desk))) =
+    let refused : HoldsOwnEvent g.S.Store desk
+    → IfErr c.write.result (λ _. IsFalse (desk_state new).needs_reopen → RecoversJust (state g.S.Store new) (placed_of (desk_state desk))) =
     λ shows. leaves_refused g.S.Store desk new c.write.result (left shows) wrote.refused in
     record {
       turn = turn;
@@ -77,10 +77,10 @@ returns g c =
       asked = command_asks g.S.Store desk new command c.write.result turn
           (λ stopped. absurd (true≢false (sym stopped ∙ runs))) wrote.clean
           (λ clean shows. represents_after g.S.Store desk new c.write.result shows (wrote.written clean shows) wrote.refused)
-          wrote.others wrote.kept wrote.version left wrote.acknowledged undecided refused;
+          wrote.others wrote.kept wrote.version left wrote.acknowledged in_doubt refused;
       same = same_unless g.S.Store desk new c.write.result wrote.refused;
       kept = wrote.kept;
       acknowledged = wrote.acknowledged;
-      undecided = undecided;
+      in_doubt = in_doubt;
       refused = refused;
     }

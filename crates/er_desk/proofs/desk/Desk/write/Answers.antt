@@ -1,7 +1,7 @@
 use Rattle.std.proofs.{Common.{◌+◌, ◌∙◌, ℕ, refl, sym, subst}, Math.Logic.∥∥₁_map}
 use Rattle.er_event.specs.Event.{EventValue}
 use Rattle.er_rules.specs.Sound.{IsSound}
-use Rattle.er_store.specs.Representing.{IsStoredIn, Shows}
+use Rattle.er_store.specs.Representing.{IsStoredIn, RepresentsNow}
 use Rattle.er_store.specs.Store as tables
 use Rattle.er_desk.specs.Desk.{version_in}
 use Rattle.er_desk.proofs.Turns.{desk_state_same, untaken}
@@ -29,8 +29,10 @@ returns-in-Ok g c =
       );
       refused = tt;
       clean = wrote.clean;
-      written = λ clean shows. subst (λ (v : ℕ). Shows v (tables.state g.S.Store c.write.new.self) c.in_ok-next.next (old.serial + 1)) (sym wrote.version)
-          (subst (λ (e : EventValue). Shows (version_in old) (tables.state g.S.Store c.write.new.self) e (old.serial + 1)) same
+      written = λ clean shows. subst (λ (v : ℕ). RepresentsNow v (tables.store_state g.S.Store c.write.new.self) c.in_ok-next.next
+          (old.serial + 1)) (sym wrote.version)
+          (subst (λ (e : EventValue). RepresentsNow (version_in old) (tables.store_state g.S.Store c.write.new.self) e
+          (old.serial + 1)) same
           (c.in-Ok.ensures.written clean shows));
       kept = λ clean. tt;
       others = wrote.others;

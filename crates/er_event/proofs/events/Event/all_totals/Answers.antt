@@ -1,4 +1,4 @@
-use Rattle.er_event.proofs.Prelude.{appearances_from, Round, List, arith, ap, length, subst, ◌∙◌, ◌≡◌}
+use Rattle.er_event.proofs.Prelude.{Round, List, arith, ap, length, subst, ◌∙◌, ◌≡◌}
 use Rattle.er_event.proofs.{MissedLemmas.{complete, complete-few}, PlayedLemmas.{gathered-now, over-weaker}}
 use Rattle.er_event.specs.inside.Played.{ArePlayed}
 use Rattle.er_event.proofs.events.Event.all_totals.Goals as goal
@@ -16,8 +16,8 @@ pub returns : goal.returns
 returns c =
     let e = c.args.self.now in
     let value = c.stored-stored.ensures.value in
-    let played : ArePlayed (appearances_from 1 e.stored) c.played_in.result =
-    subst (λ (rounds : List Round). ArePlayed (appearances_from 1 rounds) c.played_in.result) value c.played_in.ensures.played in
+    let played : ArePlayed e.stored c.played_in.result =
+    subst (λ (rounds : List Round). ArePlayed rounds c.played_in.result) value c.played_in.ensures.played in
     let count : c.complete_of.result ≡ complete (length e.stored) e.stored =
     c.complete_of.ensures ∙ ap (λ (rounds : List Round). complete (length rounds) rounds) value in
     gathered-now e c.stored-stored.ensures.sound (record { played = c.played_in.result; complete = c.complete_of.result }) played

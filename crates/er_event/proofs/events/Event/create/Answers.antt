@@ -1,6 +1,6 @@
 use Rattle.er_event.proofs.Prelude.{Enrolling, IsPlayoff, IsSoundButForSeeds, IsTrue, List, arith, inl, inr, is_lawful_name}
 use Rattle.er_event.proofs.Prelude.{not-suc-le-zero, refl, rules, ℕ}
-use Rattle.er_event.specs.{Change.created, Sound.AreLimits}
+use Rattle.er_event.specs.{Change.initial_event, Sound.AreLimits}
 use Rattle.er_event.proofs.events.Event.create.Goals as goal
 
 not_playoff : IsPlayoff Enrolling → ⊥
@@ -8,7 +8,7 @@ not_playoff (inl is) = cc
 not_playoff (inr is) = cc
 
 created-sound : (name : List ℕ) (rounds cut : ℕ) → IsTrue (is_lawful_name name) → AreLimits rounds cut
-    → IsSoundButForSeeds (created name rounds cut)
+    → IsSoundButForSeeds (initial_event name rounds cut)
 created-sound name rounds cut lawful limits = record {
   set_up = record { name = lawful; rounds = (limits.0, limits.1); cut = limits.2 };
   players = record {

@@ -1,4 +1,4 @@
-use Rattle.er_event.proofs.Prelude.{IsEnd, scored, EventValue, IsSoundButForSeeds, Match, Bor, IsTrue, List, Some, ap, arith}
+use Rattle.er_event.proofs.Prelude.{IsEnd, match_with_score, EventValue, IsSoundButForSeeds, Match, Bor, IsTrue, List, Some, ap, arith}
 use Rattle.er_event.proofs.Prelude.{length, none-some, option_map, refl, subst, sym, true≢false, ◌-◌, ◌↔◌, ◌∙◌, set}
 use Rattle.er_event.proofs.EndLemmas.{behind-none, behind-some, beq-same, later-read, none-map, same-beq, same-bools, slot-set}
 use Rattle.er_event.proofs.{EndLemmas.{slot-within, stage-few, stage-within}, SlotLemmas.Stands}
@@ -53,7 +53,7 @@ returns-in_default-get c =
     let made = slot-set e c.args.stage c.args.slot m is h c.as_slice-stages.result.now list c.from.result c.from-2.result c.from.ensures
     c.from-2.ensures c.index-stages-from.result c.index-stages-from.is c.args.score _
     (c.with_match-slots.ensures
-    ∙ ap (λ (t : List Match). set t (c.from-2.result - 1) (scored c.args.score m)) c.as_slice-matches.ensures) in
+    ∙ ap (λ (t : List Match). set t (c.from-2.result - 1) (match_with_score c.args.score m)) c.as_slice-matches.ensures) in
     let next = option_map (λ (n : Bor (List Match)). n.now) c.args.next in
     let past = c.in_default-get.ensures.lookup.3 in
     let count = ap length list in
@@ -96,7 +96,7 @@ returns c =
     let made = slot-set e c.args.stage c.args.slot m is h c.as_slice-stages.result.now list c.from.result c.from-2.result c.from.ensures
     c.from-2.ensures c.index-stages-from.result c.index-stages-from.is c.args.score _
     (c.with_match-slots.ensures
-    ∙ ap (λ (t : List Match). set t (c.from-2.result - 1) (scored c.args.score m)) c.as_slice-matches.ensures) in
+    ∙ ap (λ (t : List Match). set t (c.from-2.result - 1) (match_with_score c.args.score m)) c.as_slice-matches.ensures) in
     let l = c.in-Some-get.later.now in
     let look = c.in-Some-get.ensures.lookup in
     let at = later-read e c.args.stage c.as_slice-stages.result.now list c.from-3.result c.from-3.ensures l look.3.0 look.1 in

@@ -1,6 +1,6 @@
 use Rattle.er_event.proofs.Prelude.{IsSoundButForSeeds, refl, List, Player, ap, arith, length, sym, ◌+◌, ◌∙◌, ◌≡◌}
 use Rattle.er_event.proofs.MissedLemmas.{joined-after, joined-stored}
-use Rattle.er_event.specs.{Change.{after, new_player}, inside.Joined.joined_of}
+use Rattle.er_event.specs.{Change.{after, new_player}, Results.rounds_missed_of}
 use Rattle.er_event.proofs.events.Event.joined_after.Goals as goal
 
 pub returns-in-AddPlayer-clause-value : goal.returns-in-AddPlayer-clause-value
@@ -16,7 +16,7 @@ pub returns-in-AddPlayer-clause-few : goal.returns-in-AddPlayer-clause-few
 returns-in-AddPlayer-clause-few c =
     let e = c.args.self.now in
     let next = after e c.args.change.now in
-    let value : c.joined_with.result ≡ joined_of next.players c.args.player = returns-in-AddPlayer-clause-value c in
+    let value : c.joined_with.result ≡ rounds_missed_of next.players c.args.player = returns-in-AddPlayer-clause-value c in
     let sound : IsSoundButForSeeds next = c.requires.sound in
     let low = joined-stored c.args.player next.players next.stored sound.missed in
     let same : length next.stored ≡ length e.stored = rw c.in-AddPlayer.is refl in
@@ -24,13 +24,13 @@ returns-in-AddPlayer-clause-few c =
 
 pub returns-in_default-clause-value : goal.returns-in_default-clause-value
 returns-in_default-clause-value c =
-    c.joined_of.ensures ∙ (ap (λ (ps : List Player). joined_of ps c.args.player) c.players-in_default.ensures.value
+    c.joined_of.ensures ∙ (ap (λ (ps : List Player). rounds_missed_of ps c.args.player) c.players-in_default.ensures.value
     ∙ sym (joined-after c.args.self.now c.args.change.now c.args.player c.in_default.not-AddPlayer))
 
 pub returns-in_default-clause-few : goal.returns-in_default-clause-few
 returns-in_default-clause-few c =
     let e = c.args.self.now in
-    let is : c.joined_of.result ≡ joined_of e.players c.args.player =
-    c.joined_of.ensures ∙ ap (λ (ps : List Player). joined_of ps c.args.player) c.players-in_default.ensures.value in
+    let is : c.joined_of.result ≡ rounds_missed_of e.players c.args.player =
+    c.joined_of.ensures ∙ ap (λ (ps : List Player). rounds_missed_of ps c.args.player) c.players-in_default.ensures.value in
     let low = joined-stored c.args.player e.players e.stored c.players-in_default.ensures.sound.missed in
     omega (arith, is, low)

@@ -1,6 +1,6 @@
 use Rattle.er_event.proofs.Prelude.{EventValue, IsFirstFault, IsOf, IsSoundButForSeeds, [], length, rules, subst, sym, ◌≡◌, Damaged}
 use Rattle.er_event.proofs.Prelude.{All, Bool, HasMissed, List, Player, Round, list_all, true, true≢false, ◌∙◌}
-use Rattle.er_event.specs.{declared.refusals.Place.TheVariants.PairingTable, inside.Reading.has_missed}
+use Rattle.er_event.specs.{declared.refusals.Place.TheVariants.PairingTable, inside.Reading.is_absent_from_missed}
 use Rattle.er_event.proofs.Absent.{have-missed, missed-have}
 use Rattle.er_event.proofs.ReadingLemmas.{event_of, is_whole, missed_fault, players_fault, rounds_fault, row_there, stages_fault}
 use Rattle.er_event.proofs.events.Event.read.Goals as goal
@@ -70,7 +70,8 @@ returns-then-not-have_missed-clause-damaged c place bad =
     (λ missed. true≢false (sym (missed-have rounds players missed) ∙ (sym test ∙ c.if-not-have_missed.true))))
 
 -- nobody sits in a round that they missed
-all_missed : (rounds : List Round) (players : List Player) (test : Bool) → test ≡ list_all (has_missed rounds) players → test ≡ true
+all_missed : (rounds : List Round) (players : List Player) (test : Bool) → test ≡ list_all (is_absent_from_missed rounds) players
+    → test ≡ true
     → All (HasMissed rounds) players
 all_missed rounds players test is holds = have-missed rounds players (sym is ∙ holds)
 

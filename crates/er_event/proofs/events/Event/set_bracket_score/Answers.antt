@@ -1,16 +1,16 @@
-use Rattle.er_event.proofs.Prelude.{Fits, one_more, with_bracket_score, EventValue, IsSoundButForSeeds, SetBracketScore, Match, value_of}
+use Rattle.er_event.proofs.Prelude.{Fits, one_more, with_bracket_score, EventValue, IsSoundButForSeeds, SetBracketScore, Match, event_value}
 use Rattle.er_event.proofs.Prelude.{List, ap, subst, sym, ◌∙◌, ◌≡◌}
 use Rattle.er_event.proofs.{EndLemmas.{slot-more, written-slot}, PlayoffLemmas.in_playoff}
 use Rattle.er_event.proofs.events.Event.set_bracket_score.Goals as goal
 
 pub invariant_of-self : goal.invariant_of-self
 invariant_of-self c =
-    let e = value_of c.self.inside in
+    let e = event_value c.self.inside in
     subst (λ (ss : List (List Match)). IsSoundButForSeeds (in_playoff e e.phase ss)) (sym c.in-Err.ensures.err) c.self.invariant
 
 pub score_slot-requires : goal.score_slot-requires
 score_slot-requires c =
-    let e = value_of c.self.inside in
+    let e = event_value c.self.inside in
     let fits = subst (λ (v : EventValue). Fits v (SetBracketScore c.args.stage c.args.slot c.args.score c.args.next c.args.finished))
     (sym c.self.view_is) c.requires in (
       fits.named.0,
@@ -18,10 +18,11 @@ score_slot-requires c =
           c.in_default.ensures.ok,
     )
 
-made : (c : goal.After-phase_after-self-inside) → in_playoff (value_of c.self.inside) c.phase_after-self-inside.result
-    c.score_slot.new.stages ≡ with_bracket_score (value_of c.self.inside) c.args.stage c.args.slot c.args.score c.args.next c.args.finished
+made : (c : goal.After-phase_after-self-inside) → in_playoff (event_value c.self.inside) c.phase_after-self-inside.result
+    c.score_slot.new.stages ≡ with_bracket_score
+    (event_value c.self.inside) c.args.stage c.args.slot c.args.score c.args.next c.args.finished
 made c =
-    let e = value_of c.self.inside in
+    let e = event_value c.self.inside in
     let fits = subst (λ (v : EventValue). Fits v (SetBracketScore c.args.stage c.args.slot c.args.score c.args.next c.args.finished))
     (sym c.self.view_is) c.requires in
     written-slot e c.args.stage c.args.slot c.args.score c.args.next c.args.finished fits.named.0 fits.named.1 c.add_next.new.stages

@@ -1,6 +1,6 @@
 use Rattle.er_event.proofs.Prelude.{IsSoundButForSeeds, arith, ap, ap₂, sym, ◌∙◌, ◌≡◌, ℕ}
 use Rattle.er_event.proofs.{MissedLemmas.{complete, complete-few, totals-split}, OverLemmas.played-over}
-use Rattle.er_event.specs.{Change.after, inside.Joined.joined_of, Totals.{missed_totals, plus}, declared.totals.Totals.Totals}
+use Rattle.er_event.specs.{Change.after, Results.rounds_missed_of, Totals.{missed_totals, plus}, declared.totals.Totals.Totals}
 use Rattle.er_event.proofs.events.Event.totals_after.Goals as goal
 
 pub with_missed-requires : goal.with_missed-requires
@@ -16,9 +16,9 @@ with_missed-requires c =
 pub returns : goal.returns
 returns c =
     let next = after c.args.self.now c.args.change.now in
-    let joined : c.joined_after-joined.result ≡ joined_of next.players c.args.player =
-    c.joined_after-joined.ensures.value ∙ ap (joined_of next.players) c.get.ensures.value in
-    let missed : c.complete_after-missed.result ≡ complete (joined_of next.players c.args.player) next.stored =
+    let joined : c.joined_after-joined.result ≡ rounds_missed_of next.players c.args.player =
+    c.joined_after-joined.ensures.value ∙ ap (rounds_missed_of next.players) c.get.ensures.value in
+    let missed : c.complete_after-missed.result ≡ complete (rounds_missed_of next.players c.args.player) next.stored =
     c.complete_after-missed.ensures ∙ ap (λ (n : ℕ). complete n next.stored) joined in
     c.with_missed.ensures ∙ (ap₂ plus c.played_after.ensures (ap missed_totals missed)
-    ∙ sym (totals-split next c.args.player c.requires.sound.players.numbered))
+    ∙ sym (totals-split next c.args.player))

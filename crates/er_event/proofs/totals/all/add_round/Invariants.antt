@@ -1,4 +1,4 @@
-use Rattle.er_event.proofs.Prelude.{appearances_of_match, own, totals_of, Match, AreOver, All, List, [], flat_map, get_or, length}
+use Rattle.er_event.proofs.Prelude.{results_of_match, totals_of, Match, AreOver, All, List, [], flat_map, get_or, length}
 use Rattle.er_event.proofs.Prelude.{option_map, ℕ, ◌+◌, ◌<◌, ◌≡◌, ◌≤◌}
 use Rattle.er_event.specs.{Totals.plus, inside.Played.IsRescored}
 use Rattle.er_event.proofs.totals.all.add_round.Given as goal
@@ -8,7 +8,7 @@ invariant-loop-number l = record {
   value : (player : ℕ) → 0 < player → player < l.number → (matches : List Match) → IsRescored l.seats (option_map (λ m. m.now) l.new)
       matches
       → (round : ℕ) → get_or l.played player (totals_of [])
-      ≡ plus (get_or l.fn.played player (totals_of [])) (totals_of (own player (flat_map (appearances_of_match round) matches)));
+      ≡ plus (get_or l.fn.played player (totals_of [])) (totals_of (flat_map (results_of_match player round) matches));
   over : (rounds : ℕ) → All (AreOver rounds) l.fn.played → (player : ℕ) → player < l.number
       → AreOver (rounds + 1) (get_or l.played player (totals_of []));
   long : length l.played ≡ 513;

@@ -1,5 +1,5 @@
-use Rattle.er_event.proofs.Prelude.{counted_appearances, own, totals_of, arith, ap, length, take, ◌+◌, ◌∙◌}
-use Rattle.er_event.proofs.PlayedLemmas.{appearances-more}
+use Rattle.er_event.proofs.Prelude.{complete_results, totals_of, arith, ap, length, take, ◌+◌, ◌∙◌}
+use Rattle.er_event.proofs.PlayedLemmas.{results-more}
 use Rattle.er_event.specs.{Totals.plus, declared.totals.Totals.Totals}
 use Rattle.er_event.proofs.totals.all.played_in.Goals as goal
 
@@ -12,9 +12,9 @@ loop-round-preserved c =
     record {
       played = λ player low within.
           let more = rw c.as_slice.ensures at (c.count_round.ensures.value n player low (omega arith)) in
-          more ∙ (ap (λ (t : Totals). plus t (totals_of (own player (counted_appearances n r))))
-          (c.loop-round.invariant.played player low (omega arith))
-          ∙ appearances-more player rounds i r c.loop-round-test.true c.round-item.is);
+          let before = c.loop-round.invariant.played player low (omega arith) in
+          let now = results-more player rounds i r c.loop-round-test.true c.round-item.is in
+          more ∙ (ap (λ (t : Totals). plus t (totals_of (complete_results player (n, r)))) before ∙ now);
       over = λ k d below. c.count_round.ensures.over i c.loop-round.invariant.over k d below;
       long = omega arith;
     }

@@ -1,5 +1,5 @@
-use Rattle.er_event.proofs.Prelude.{counted_appearances, own, totals_of, Round, arith, ap, length, ◌+◌, ◌∙◌}
-use Rattle.er_event.proofs.PlayedLemmas.{appearances-push}
+use Rattle.er_event.proofs.Prelude.{complete_results, totals_of, Round, arith, ap, length, ◌+◌, ◌∙◌}
+use Rattle.er_event.proofs.PlayedLemmas.{results-push}
 use Rattle.er_event.specs.{Totals.plus, declared.totals.Totals.Totals}
 use Rattle.er_event.proofs.totals.all.played_with_round.Goals as goal
 
@@ -9,9 +9,9 @@ returns-clause-played c = λ player low within.
     let r : Round = record { matches = c.args.matches.now } in
     let n = 1 + length rounds in
     c.count_round.ensures.value n player low (omega arith)
-    ∙ (ap (λ (t : Totals). plus t (totals_of (own player (counted_appearances n r))))
+    ∙ (ap (λ (t : Totals). plus t (totals_of (complete_results player (n, r))))
     (c.played_in-played.ensures.played player low (omega arith))
-    ∙ appearances-push player rounds r)
+    ∙ results-push player rounds r)
 
 pub returns-clause-over : goal.returns-clause-over
 returns-clause-over c = c.count_round.ensures.over (length c.args.rounds.now) c.played_in-played.ensures.over

@@ -1,0 +1,59 @@
+-- What is done with an event that was opened, and what is told of it. No file and no disk is known here.
+use Rattle.std.specs.Prelude.{◌≡◌, Bool, IsTrue, [], ◌∷◌, None}
+use Rattle.er_event.specs.declared.commands.Command.{Command}
+use Rattle.er_event.specs.declared.commands.Receipt.{Receipt}
+use Rattle.er_desk.specs.Desk.{Placed, DeskState, running_at}
+use Rattle.er_desk.specs.Run.{Session}
+use Rattle.er_answers.specs.Answers.{AnswersDesk, session_at}
+use Rattle.er_answers.specs.Due.{IsAnswerAt, OrFault}
+use Rattle.er_answers.specs.declared.question.Question.{Question}
+use Rattle.er_answers.specs.declared.question.Question.TheVariants.{Submit, Migrate}
+use Rattle.er_answers.specs.declared.question.Told.{Told}
+use Rattle.er_answers.specs.declared.question.Told.TheVariants.{Accepted}
+use Rattle.er_cli.specs.declared.action.Task.{Task}
+use Rattle.er_cli.specs.declared.action.Task.TheVariants.{Ask, Import, Serve}
+use Rattle.er_cli.specs.Help.{Printed, Tells}
+use Rattle.er_cli.specs.Importing.{Imports}
+use Rattle.er_cli.specs.Serving.{ServesClients}
+
+-- what was done with an event: a session was asked of it, or its tables were to be moved, and this was told
+pub data Work : Type 0 where
+  Commands : Session → Work
+  Migration : Told → Work
+
+-- what one question has done, by what it was told
+abbrev pub work_of : Question → Told → (needs_reopen : Bool) → Work
+work_of Migrate told needs_reopen = Migration told
+work_of question told needs_reopen = Commands (session_at question told needs_reopen)
+
+-- What a desk is asked for a task, and what is told of it. `Represented` is that its tables represented its event, on a clean disk.
+abbrev pub DoesTask : (Represented : Type 0) → DeskState → Task → Work → DeskState → Printed → Type 0
+DoesTask Represented old (Ask question) work new p =
+    (told : Told) × AnswersDesk Represented old question told new × (work ≡ work_of question told new.needs_reopen) × Tells told p
+DoesTask Represented old (Import list) work new p = (session : Session) × (work ≡ Commands session) × Imports p old session new
+DoesTask Represented old (Serve port count) work new p =
+    (session : Session) × (work ≡ Commands session) × ServesClients p count old session new
+
+-- ---- at the end of a history
+
+-- One question, and its answer. `Sure` is that the disk is clean, without which no answer is due.
+pub record AnswersQuestion (Sure : Type 0) (first : Placed) (question : Question) (told : Told) (work : Work) : Type 0 where
+  -- whether a fault of the store is behind
+  pub needs_reopen : Bool
+  pub asked : work ≡ work_of question told needs_reopen
+  pub lawful : Sure → IsAnswerAt first.version first.point question told
+  -- Acknowledged is kept: where `ok` and a serial were answered, the session is this command, and nothing is in doubt.
+  pub acknowledged : (command : Command) (receipt : Receipt) → question ≡ Submit command → told ≡ Accepted receipt
+      → work ≡ Commands (record { acknowledged = command ∷ []; in_doubt = None })
+  -- Only a fault of the store leaves a doubt.
+  pub doubt : Sure → IsTrue needs_reopen → OrFault ⊥ told
+
+-- One request with its answer; the names of a list, one command after the other; or the scores that clients handed in.
+abbrev pub AnswersTask : (Sure : Type 0) → Placed → Task → Work → Printed → Type 0
+AnswersTask Sure first (Ask question) work p = (told : Told) × AnswersQuestion Sure first question told work × Tells told p
+AnswersTask Sure first (Import list) work p =
+    (session : Session) × (work ≡ Commands session)
+    × (Sure → (last : DeskState) × Imports p (running_at first.point first.version) session last)
+AnswersTask Sure first (Serve port count) work p =
+    (session : Session) × (work ≡ Commands session)
+    × (Sure → (last : DeskState) × ServesClients p count (running_at first.point first.version) session last)
