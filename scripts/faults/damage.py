@@ -262,6 +262,8 @@ def main(program, library, count, seed, jobs, templates, longest):
     with tempfile.TemporaryDirectory() as folder:
         dice, outcomes = dice_of(seed), []
         chosen_ones = chosen(dice, templates, longest)
+        # one in which nobody is enrolled, whose only row is the event's
+        chosen_ones.append(Template(chosen_ones[0].states[:1]))
         for number, template in enumerate(chosen_ones):
             template.make(program, library, f"{folder}/{number}")
         damages = Damages(program, chosen_ones, seed)

@@ -68,6 +68,7 @@ UNREAD = (
     ("PRAGMA auto_vacuum = FULL", "VACUUM"),
 )
 UNREAD_KIND = "what isn't read added"
+MOST_TRIES = 1000
 NO_TRANSACTION = {"our rows kept": KEPT, UNREAD_KIND: UNREAD}
 
 
@@ -162,6 +163,11 @@ def insert_row(dice, base, event):
     base.execute(f"INSERT INTO {table}({', '.join(columns_of(table))}) VALUES ({places(row)})", row)
 
 
+def copy_or_insert(dice, base, event):
+    """A copy; where nobody is enrolled a new row, since the table lets no second row of the event pass."""
+    (copy_row if event.names else insert_row)(dice, base, event)
+
+
 def leave(_dice, _base, _event):
     """No damage."""
 
@@ -239,7 +245,7 @@ KINDS = {
     "values set": set_values,
     "a column set": set_column,
     "rows deleted": delete_rows,
-    "a row copied": copy_row,
+    "a row copied": copy_or_insert,
     "a row inserted": insert_row,
     "a table dropped": drop_table,
     "a name of SQL changed": rename,
@@ -252,8 +258,8 @@ KINDS = {
 
 
 def damage_by(dice, base, change, event):
-    """The change in one transaction. What the tables don't let pass is tried again in another way."""
-    while True:
+    """The change in one transaction. What the tables don't let pass is tried again in another way, a thousand times at most."""
+    for _ in range(MOST_TRIES):
         base.execute("BEGIN")
         try:
             change(dice, base, event)
@@ -261,6 +267,7 @@ def damage_by(dice, base, change, event):
             return
         except sqlite3.Error:
             base.execute("ROLLBACK")
+    raise RuntimeError(f"the tables let no {change.__name__} pass")
 
 
 def damage(dice, file, kind, event):
