@@ -18,6 +18,7 @@ each time it is kept that they were refused, as `rt ci` keeps it of its own edit
 """
 import argparse
 import concurrent.futures
+import contextlib
 import dataclasses
 import glob
 import os
@@ -470,9 +471,16 @@ def linked(one, other):
         shutil.copy2(one, other)
 
 
+def give_way(niceness):
+    """Lets other work go first. Where the kernel shares processors among sessions, niceness counts within one alone, so the session gets it too."""
+    os.nice(niceness)
+    with contextlib.suppress(OSError), open("/proc/self/autogroup", "w", encoding="ascii") as it:
+        it.write(str(niceness))
+
+
 def try_beside(gate, work, shows, earlier):
     """Tries those of a crate once the gate has proved it: with half of the processors until the gate has ended, and then with all."""
-    os.nice(10)
+    give_way(10)
     found, left, running = [], [*work], set()
     with concurrent.futures.ThreadPoolExecutor(rt.processors()) as pool:
         while left or running:
