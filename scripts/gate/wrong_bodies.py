@@ -81,7 +81,8 @@ def module_of(file):
 
 
 HEAD = re.compile(r"^ *(?:pub(?:\([^)]*\))? )?(?:const )?fn (\w+)", re.M)
-IMPL = re.compile(r"^impl(?:<[^{]*?>)? (?:([\w:]+)(?:<[^{]*?>)? for )?(\w+)", re.M)
+# one that is empty, on its line, has no function
+IMPL = re.compile(r"^impl(?:<[^{]*?>)? (?:([\w:]+)(?:<[^{]*?>)? for )?(\w+)\b(?!.*\{\}$)", re.M)
 
 
 def path_of(crate, text, head, file):
