@@ -1,2 +1,3 @@
 -- What private functions alone cite.
+pub mod Opened
 pub mod Taking

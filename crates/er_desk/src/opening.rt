@@ -1,8 +1,11 @@
-ghost use Rattle.std.specs.Prelude.{◌≡◌, IfErr, Some, false};
+ghost use Rattle.std.specs.Prelude.{◌≡◌, IfOk, IfErr, Some, false};
+ghost use Rattle.sqlite.specs.Files.{over_files, file_state};
 ghost use Rattle.sqlite_wal.specs.Files.{image_at};
 ghost use Rattle.er_event.specs.{Refusal.refusal_text, Sound.AreLimits};
+ghost use Rattle.er_desk.specs.Begins.{HasAdopted, HasNotAdopted, HasCreated, HasNotCreated};
 ghost use Rattle.er_desk.specs.Files.{OpensFile, MakesFile};
 ghost use Rattle.er_desk.specs.Opening.{IsSpared, why_of, OnUnopened};
+ghost use Rattle.er_desk.specs.inside.Opened.{FromOpened};
 
 use crate::desk::Desk;
 use er_event::{Name, Refusal};
@@ -10,6 +13,7 @@ use er_store::laws::stored_represents;
 use er_store::refusal_of;
 use sqlite::{Alter, Connection, Error, FileFrom, FileStore, Leftover, Start};
 use sqlite_disk::Disk;
+use std::alloc::Global;
 use std::{error, fmt};
 
 /// Why a file was not opened as a desk.
@@ -57,6 +61,48 @@ impl<D: Disk + Drop> fmt::Display for OpenFault<D> {
 
 impl<D: Disk + Drop> error::Error for OpenFault<D> {}
 
+/// What the storage crate gives of the files at a path: a connection, or why it did not open them, with what is left.
+type Opened<D> = Result<Connection<FileStore<D>>, (Error, Option<Leftover<D>>)>;
+
+/// Takes over the event of files that were opened. Just those that were not are called unopened.
+fn adopt_opened<D: Disk + Drop>(
+    alloc: Global,
+    opened: Opened<D>,
+) -> Result<Desk<FileStore<D>>, OpenFault<D>>
+    requires mode { IfOk opened (λ conn. conn.in_transaction ≡ false) }
+    ensures adopts { FromOpened (λ conn. HasAdopted over_files (file_state conn)) (λ conn. HasNotAdopted over_files (file_state conn)) opened result }
+{
+    let conn = match opened {
+        Ok(conn) => conn,
+        Err((error, left)) => return Err(OpenFault::Unopened { error, left }),
+    };
+    match Desk::adopt(alloc, conn) {
+        Ok(desk) => Ok(desk),
+        Err((conn, refusal)) => Err(OpenFault::Refused { conn, refusal }),
+    }
+}
+
+/// Makes an event in files that were opened. Just those that were not are called unopened.
+fn create_in_opened<D: Disk + Drop>(
+    alloc: Global,
+    opened: Opened<D>,
+    name: Name,
+    rounds: u8,
+    cut: u8,
+) -> Result<Desk<FileStore<D>>, OpenFault<D>>
+    requires mode { IfOk opened (λ conn. conn.in_transaction ≡ false) }
+    ensures creates { FromOpened (λ conn. HasCreated over_files name rounds cut (file_state conn)) (HasNotCreated over_files name rounds cut) opened result }
+{
+    let conn = match opened {
+        Ok(conn) => conn,
+        Err((error, left)) => return Err(OpenFault::Unopened { error, left }),
+    };
+    match Desk::create(alloc, conn, name, rounds, cut) {
+        Ok(desk) => Ok(desk),
+        Err((conn, why)) => Err(OpenFault::Refused { conn, refusal: why }),
+    }
+}
+
 /// Opens the file of an event. Where a crash may have left what the file holds, the event and the serial found are those that it
 /// represents, and a crash then leaves them again.
 pub fn open<S: Start>(
@@ -70,14 +116,7 @@ pub fn open<S: Start>(
 {
     // What a crash left represents the event again: this tells the proof.
     stored_represents();
-    let conn = match Connection::open_from(rt, path, false, start) {
-        Ok(conn) => conn,
-        Err((error, left)) => return Err(OpenFault::Unopened { error, left }),
-    };
-    match Desk::adopt(rt.alloc(), conn) {
-        Ok(desk) => Ok(desk),
-        Err((conn, refusal)) => Err(OpenFault::Refused { conn, refusal }),
-    }
+    adopt_opened(rt.alloc(), Connection::open_from(rt, path, false, start))
 }
 
 /// Makes an event in a file, which is made where it isn't there. Whoever calls has checked the limits.
@@ -94,12 +133,11 @@ pub fn create_in<S: Start>(
     // Of files that were not opened, what is left represents what they held, and says why.
     ensures spared { IfErr result (λ why. OnUnopened why IsSpared) }
 {
-    let conn = match Connection::open_from(rt, path, false, start) {
-        Ok(conn) => conn,
-        Err((error, left)) => return Err(OpenFault::Unopened { error, left }),
-    };
-    match Desk::create(rt.alloc(), conn, name, rounds, cut) {
-        Ok(desk) => Ok(desk),
-        Err((conn, why)) => Err(OpenFault::Refused { conn, refusal: why }),
-    }
+    create_in_opened(
+        rt.alloc(),
+        Connection::open_from(rt, path, false, start),
+        name,
+        rounds,
+        cut,
+    )
 }
