@@ -57,12 +57,12 @@ def test_a_lane_that_is_full_turns_away_and_others_go_on():
 
     def stay():
         with lanes.entered("a"):
-            is_free.wait(5)
+            is_free.wait(60)
 
     threads = [threading.Thread(target=stay) for _ in range(2)]
     for thread in threads:
         thread.start()
-    until = time.monotonic() + 5
+    until = time.monotonic() + 60
     while lanes.waiting["a"] < 2 and time.monotonic() < until:
         time.sleep(0.01)
     with pytest.raises(Crowded):

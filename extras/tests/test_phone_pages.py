@@ -469,7 +469,9 @@ def test_codes_as_they_are_typed(room):
 
 
 def test_a_right_code_passes_from_an_address_with_many_wrong_ones(room, monkeypatch):
-    monkeypatch.setattr(module, "SECONDS_IN_A_LANE", 0.0)
+    # where three seconds go by, one wrong code is forgiven
+    monkeypatch.setattr(time, "monotonic", lambda: 1000.0)
+    room.site.lanes.seconds = 0.0
     for _ in range(40):
         assert room.ask("GET", "/t/1/1/BCDFGHJK").status == 404
     assert room.site.wrong.is_empty("192.168.1.77") and not room.site.wrong.is_empty("192.168.1.78")
@@ -491,7 +493,8 @@ def test_many_requests_of_one_address(room, monkeypatch):
     assert room.ask("GET", "/", REMOTE_ADDR="192.168.1.78").status == 200
 
 
-def test_one_table_that_hands_in_without_end(room):
+def test_one_table_that_hands_in_without_end(room, monkeypatch):
+    monkeypatch.setattr(time, "monotonic", lambda: 1000.0)
     assert [room.hand_in(1, "2-0-0").status for _ in range(10)] == [303] * 8 + [429] * 2
     assert room.hand_in(2, "2-0-0").status == 303
 

@@ -70,7 +70,7 @@ def test_nobody_waits_for_ever(file, monkeypatch):
         with Turn(file).taken() as held:
             assert held == ()
     # the lock that came too late is let go
-    until = time.monotonic() + 5
+    until = time.monotonic() + 60
     while not is_free(file) and time.monotonic() < until:
         time.sleep(0.01)
     assert is_free(file)
