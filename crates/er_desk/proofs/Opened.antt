@@ -26,7 +26,8 @@ module _ {D : Type 0} {g : Ghosts D} (image : Image) where
   -- what the storage crate says of a connection to files that it opened
   module _ (conn : Held (FileStore D g)) (opened : HasCleanDisk (file_state conn) → Opens (file_state conn) × IsLive (file_state conn))
       (found : HasCleanDisk (file_state conn) → FindsIn image (file_state conn)) where
-    module _ (law : (v : ℕ) (db : Database) (e : EventValue) (n : ℕ) → IsDatabase db → IsStoredIn v e n db.trees → RepresentsIn v db e n) where
+    module _ (law : (v : ℕ) (db : Database) (e : EventValue) (n : ℕ)
+        → IsDatabase db → IsStoredIn v e n db.trees → RepresentsIn v db e n) where
       adopted : (desk : Desk (FileStore D g) over_files) → HasAdopted over_files (file_state conn) desk → HasOpened image desk
       adopted desk it = record {
         ready = it.ready;
@@ -182,7 +183,8 @@ module _ {S : Type 0} {g : calls.Ghosts Host} {first : start.Ghosts S} {d : Ghos
       (HasNot : Held (FileStore (Modelled Host S g first) d) → Held (FileStore (Modelled Host S g first) d) × Refusal → Type 0)
       (given : Result (Held (FileStore (Modelled Host S g first) d)) (Error × Option (Leftover (Modelled Host S g first) d)))
       (result : Result (Desk (FileStore (Modelled Host S g first) d) over_files) (OpenFault (Modelled Host S g first) d))
-      → IfErr given (λ e. e.1 ≡ None → (e.0 ≡ SqliteFailure CannotOpen) ⊎ ((e.0 ≡ SqliteFailure OutOfMemory) ⊎ (e.0 ≡ SqliteFailure DatabaseBusy)))
+      → IfErr given (λ e. e.1 ≡ None
+      → (e.0 ≡ SqliteFailure CannotOpen) ⊎ ((e.0 ≡ SqliteFailure OutOfMemory) ⊎ (e.0 ≡ SqliteFailure DatabaseBusy)))
       → IfErr given (λ e. IfSome e.1 (λ left. IsSpared e.0 (Some left)))
       → FromOpened Has HasNot given result → IfErr result (λ why. OnUnopened why IsSpared)
   spares Has HasNot (Err (error, left)) result none some is =

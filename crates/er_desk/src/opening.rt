@@ -70,7 +70,8 @@ fn adopt_opened<D: Disk + Drop>(
     opened: Opened<D>,
 ) -> Result<Desk<FileStore<D>>, OpenFault<D>>
     requires mode { IfOk opened (λ conn. conn.in_transaction ≡ false) }
-    ensures adopts { FromOpened (λ conn. HasAdopted over_files (file_state conn)) (λ conn. HasNotAdopted over_files (file_state conn)) opened result }
+    ensures adopts { FromOpened (λ conn. HasAdopted over_files (file_state conn))
+        (λ conn. HasNotAdopted over_files (file_state conn)) opened result }
 {
     let conn = match opened {
         Ok(conn) => conn,
@@ -91,7 +92,8 @@ fn create_in_opened<D: Disk + Drop>(
     cut: u8,
 ) -> Result<Desk<FileStore<D>>, OpenFault<D>>
     requires mode { IfOk opened (λ conn. conn.in_transaction ≡ false) }
-    ensures creates { FromOpened (λ conn. HasCreated over_files name rounds cut (file_state conn)) (HasNotCreated over_files name rounds cut) opened result }
+    ensures creates { FromOpened (λ conn. HasCreated over_files name rounds cut (file_state conn))
+        (HasNotCreated over_files name rounds cut) opened result }
 {
     let conn = match opened {
         Ok(conn) => conn,
