@@ -21,10 +21,11 @@ import tempfile
 from scripts.clients.event_files import copied, due, make_old, rows_alone, rows_of, rows_of_copy, run, words_of
 from scripts.clients.tally import check, dice_of, end
 from scripts.faults import damaged_bytes
+from scripts.faults import damaged_events
 from scripts.faults import damaged_rows
 from scripts.faults.stopping import run_unclosed
 from scripts.models import plain_file
-from scripts.models.plain_event import PLAYOFF
+from scripts.models.plain_event import PLAYOFF, SWISS, Event
 from scripts.models.plain_log import FRAME, HEAD, committed
 from scripts.models.random_play import random_event, version_of
 
@@ -120,6 +121,18 @@ def chosen(dice, count, longest):
             found.append(it)
         if len(found) == count:
             return found
+
+
+def check_other_playoffs():
+    """Where the standings can no longer seed it, another playoff has the seeds that were there."""
+    for what, change in (("a player less", lambda event: event.names.pop()), ("a cut of 3", lambda event: setattr(event, "cut", 3))):
+        for number in range(10):
+            event = Event(1, 2)
+            event.names, event.phase, event.stored = [*"ABCD"], SWISS, [[[1, 4, (2, 0, 0)], [2, 3, (2, 1, 0)]]]
+            event.end_rounds()
+            change(event)
+            damaged_events.other_playoff(random.Random(number), event)
+            check(f"another playoff with {what}", [it[:2] for it in event.stages[0]], [[1, 2]])
 
 
 # ---- one damage
@@ -259,6 +272,7 @@ def told(outcomes):
 
 
 def main(program, library, count, seed, jobs, templates, longest):
+    check_other_playoffs()
     with tempfile.TemporaryDirectory() as folder:
         dice, outcomes = dice_of(seed), []
         chosen_ones = chosen(dice, templates, longest)

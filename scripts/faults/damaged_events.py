@@ -3,7 +3,7 @@ made anew.
 """
 import copy
 
-from scripts.models.plain_event import BYE, PLAYOFF, SWISS
+from scripts.models.plain_event import BYE, PLAYOFF, SLOTS, SWISS
 
 NAMES = ("Ana", "Zoë", "大会 3", "-", "D", "a" * 60, "é" * 30, "大" * 20, "\u00a0x\u00a0", "\u0085", "007", "a  b", "\U0001f3b2", "\ufeffx")
 NO_NAMES = ("", " ", " Ana", "Ana ", "a" * 61, "é" * 31, "a\tb", "a\nb", "a\0b", "\0", "\x7f", "a" * 100_000)
@@ -78,12 +78,17 @@ def another_stage(dice, event):
     event.stages.append(dice.choice(([[1, 2, None]], [[2, 1, (2, 0, 0)], [3, 4, (0, 2, 0)]], [[most, 1, (0, 1, 0)]])))
 
 
+def can_seed(event):
+    """Whether the standings can seed a playoff. An earlier change may have taken away a player who has played, or set a cut that can't be."""
+    return event.cut in (0, *SLOTS) and all(it in (0, *event.numbers()) for matches in event.stored for match in matches for it in match[:2])
+
+
 def other_playoff(dice, event):
     """The playoff of the same seeds, or the one that the standings give, with other scores, to its end or not."""
     if event.phase < PLAYOFF:
         return
     event.stages, event.phase = [[[a, b, None] for a, b, _ in it] for it in event.stages[:1]], PLAYOFF
-    if dice.random() < 0.5:
+    if dice.random() < 0.5 and can_seed(event):
         event.stages, event.phase = [], SWISS
         event.end_rounds()
     for _ in range(dice.randrange(12)):
