@@ -1,6 +1,8 @@
 """The Python of the scripts. Each module is run from the top of the repository by its whole name: `python3 -B -m scripts.clients.run_http`."""
 import os
 import re
+import subprocess
+import time
 
 TOP = os.path.dirname(os.path.dirname(os.path.abspath(__file__)))
 
@@ -9,3 +11,9 @@ def version():
     """The version, from the one place that has it."""
     with open(f"{TOP}/crates/er_cli/src/help.rt", encoding="utf-8") as source:
         return re.search(r'^pub const VERSION: &str = "event_reporter (\d+\.\d+\.\d+)\\n";$', source.read(), re.M)[1]
+
+
+def commit_time():
+    """The time of the commit, by which what is random begins: each commit plays other events, and one commit the same."""
+    ran = subprocess.run(["git", "log", "-1", "--format=%ct"], cwd=TOP, stdout=subprocess.PIPE, stderr=subprocess.DEVNULL, text=True)
+    return int(ran.stdout.strip() or time.time())

@@ -6,21 +6,13 @@ import contextlib
 import io
 import os
 import shlex
-import subprocess
 import sys
-import time
 
-from scripts import TOP
+from scripts import TOP, commit_time
 
 # the words of each script; of any other, those of the last line
 TAKEN = {"refused_memory": ("long", "at_once"), "venue": ("long",), "times": ("runs",)}
 MOST_TAKE = ("long", "seed")
-
-
-def seed():
-    """The time of the commit, so that each commit plays other events, and one commit the same."""
-    ran = subprocess.run(["git", "log", "-1", "--format=%ct"], cwd=TOP, stdout=subprocess.PIPE, stderr=subprocess.DEVNULL, text=True)
-    return int(ran.stdout.strip() or time.time())
 
 
 def head_of(name):
@@ -58,7 +50,7 @@ def main():
         print(f"printf %s {shlex.quote(said.getvalue())}; exit {ended.code}")
         return
     if "seed" in words and words["seed"] is None:
-        words["seed"] = seed()
+        words["seed"] = commit_time()
     print(" ".join(f"{word}={shlex.quote(str(value))}" for word, value in words.items()))
 
 

@@ -1,6 +1,5 @@
-"""Runs `extras/desk.py` over the program as it is built: a whole evening to the champion through a pipe and through a terminal, each beside the plain
-reading of the rules; each refusal once; lists as people have them; copies, and how it goes back to one; answers that are lost, Ctrl-C in the middle of a
-command, and kills at random instants, after which the next start says what is stored; and scores over HTTP.
+"""Runs `extras/desk.py` over the program as it is built, but for what test_prompt.py has already: each refusal once; lists as people have them;
+copies, and how it goes back to one; answers that are lost, Ctrl-C in the middle of a command, and kills at random instants, after which the next start says what is stored; and scores over HTTP.
 
 It says how many keys a round of seventeen tables takes by command lines and by the prompt.
 """
@@ -8,14 +7,11 @@ import contextlib
 import fcntl
 import http.server
 import importlib
-import importlib.util
 import os
-import pty
 import random
 import re
 import select
 import shutil
-import signal
 import sqlite3
 import stat
 import subprocess
@@ -26,19 +22,14 @@ import time
 
 from scripts import TOP
 from scripts.clients.event_files import make_old, rows_alone, rows_of, run
+from scripts.clients.prompt import LETTERS, PATIENCE, PYTHON, Terminal, match_shown, player_shown, unfilled, where_due
 from scripts.clients.random_evenings import ENDED, HOSTILE, IN_PLAYOFF, STARTED, evening, laid
 from scripts.clients.serving import Serving, free_port, hear_interrupts
-from scripts.clients.tally import check, dice_of, end, left_out
-from scripts.models.plain_event import ENROLLING, FINISHED, PLAYOFF, SWISS, Event
+from scripts.clients.tally import check, dice_of, end
+from scripts.models.plain_event import Event
 from scripts.models.plain_file import read
 
 program, desk = os.path.abspath(sys.argv[1]), os.path.abspath(sys.argv[2])
-PROMPT, QUESTION = b"desk> ", b"(y or n) "
-PATIENCE = 20
-# without any package beside: the standard library is all that they need
-PYTHON = sys.executable, "-S", "-B"
-LETTERS = {**os.environ, "LC_ALL": "C.UTF-8", "TERM": "dumb", "INPUTRC": "/dev/null"}
-NAMES = ["Ana Lima", "Bo", "Ana - Bo", "Zoë <b>", "محمد", "007", "-x", 'O\'Neil "Z"', "大会"]
 
 
 def words_for(file, *words, by=None, python=PYTHON):
@@ -77,363 +68,6 @@ def keys_of(file):
     check(f"{file}.keys, for its owner alone", stat.S_IMODE(os.stat(f"{file}.keys").st_mode), 0o600)
     unused = {it[: -len(" unused")] for it in lines if it.endswith(" unused")}
     return [(int(it.split()[1]), bytes.fromhex(it.split()[2])) for it in lines if not it.endswith(" unused") and it not in unused]
-
-
-# ---- the plain reading of what is said
-
-
-def player_shown(event, number):
-    return f"{event.names[number - 1]} ({number})"
-
-
-def match_shown(event, match, score):
-    a, b, _ = match
-    return f"{player_shown(event, a)} {'-'.join(map(str, score))} {player_shown(event, b)}"
-
-
-def ranges(numbers):
-    text, at = "", 0
-    while at < len(numbers):
-        last = at
-        while last + 1 < len(numbers) and numbers[last + 1] == numbers[last] + 1:
-            last += 1
-        if last - at >= 2:
-            text += f", {numbers[at]}-{numbers[last]}"
-            at = last + 1
-        else:
-            text += f", {numbers[at]}"
-            at += 1
-    return text[2:]
-
-
-def next_due(event):
-    """Where the event is, and what comes next."""
-    number = len(event.stored)
-    if event.phase == ENROLLING:
-        return f"{len(event.names)} player{'s' * (len(event.names) != 1)} so far. Next: enrol Ana Lima, import names.csv, or start"
-    if event.phase == FINISHED:
-        return f"the champion is {player_shown(event, int(event.bracket()[-1].split()[1]))}"
-    if event.phase == PLAYOFF:
-        places = [f"{stage} {slot}" for stage, matches in enumerate(event.stages, 1) for slot, match in enumerate(matches, 1) if not match[2]]
-        return f"open by stage and slot: {', '.join(places)}. Next: play {places[0]} 2 0"
-    if not number:
-        return "no round is paired yet. Next: pair"
-    tables = [place for place, match in enumerate(event.stored[-1], 1) if not match[2]]
-    if tables:
-        return f"round {number}, {len(tables)} table{'s' * (len(tables) > 1)} open: {ranges(tables)}"
-    return f"round {number} has all its scores. {'All rounds are paired. Next: standings, or cut' if number == event.rounds else 'Next: pair'}"
-
-
-def where_due(title, file, event):
-    """The line with which the prompt begins."""
-    phase = {ENROLLING: "enrolling", SWISS: "Swiss rounds", PLAYOFF: "playoff", FINISHED: "finished"}[event.phase]
-    return f"{title} ({file}), {phase}: {next_due(event)}"
-
-
-def unfilled(text):
-    """Without the ends of lines at which a long one is broken."""
-    return " ".join(text.split())
-
-
-# ---- whole evenings
-
-
-class Evening:
-    """An event that is played at the prompt, and the plain event beside it. The key of each round is the one in FILE.keys."""
-
-    def __init__(self, file, send):
-        self.file, self.send, self.event = file, send, Event(3, 4)
-
-    def expect(self, line, *pieces):
-        check_said(line, unfilled(self.send(line)), *map(unfilled, pieces))
-
-    def taken(self, line, answer, *pieces):
-        self.expect(line, answer[0], *pieces)
-
-    def enrol(self):
-        event = self.event
-        self.expect("init Friday Night 3 4", "ok 0", where_due("Friday Night", self.file, event))
-        for name in NAMES:
-            answer = event.enrol(name)
-            # as a word the program takes it for an option, so that it goes in as a list
-            self.taken(f"enrol {name}", ["added 1 already 0"] if name == "-x" else answer, f"{player_shown(event, len(event.names))} is enrolled.")
-        self.taken("start", event.start(), where_due("Friday Night", self.file, event))
-
-    def pair(self):
-        event, number = self.event, len(self.event.stored) + 1
-        said = self.send("pair")
-        keys = keys_of(self.file)
-        check("the round of the newest key", keys[-1][0], number)
-        check("no key comes twice", len({it for _, it in keys}), len(keys))
-        answer = event.pair(number, keys[-1][1])
-        check_said(f"pair {number}", said, answer[0], "\n".join(event.slips(number)), f"{self.file}.keys", keys[-1][1].hex())
-
-    def result(self, table, score):
-        event, number = self.event, len(self.event.stored)
-        match, counts = event.stored[-1][table - 1], score if score[2] else score[:2]
-        answer = event.report(number, table, score, True)
-        self.expect(
-            f"{table} {' '.join(map(str, counts))}",
-            f"Round {number}, table {table}: {match_shown(event, match, score)}",
-            f"{answer[0]}: {next_due(event)}",
-        )
-
-    def fix(self, number, table, score):
-        event = self.event
-        match = event.stored[number - 1][table - 1]
-        before = "-".join(map(str, match[2]))
-        answer = event.report(number, table, score, False)
-        line = f"fix {number} {table} {' '.join(map(str, score))}"
-        self.taken(line, [f"Round {number}, table {table}: {match_shown(event, match, score)}, in place of {before}"], answer[0])
-
-    def drop(self, word, number):
-        self.expect(f"drop {word}", f"Drop {player_shown(self.event, number)}?")
-        self.expect("n", "Nobody was dropped.")
-        self.expect(f"drop {word}", f"Drop {player_shown(self.event, number)}?")
-        self.taken("y", self.event.drop(number), f"{player_shown(self.event, number)} is dropped.")
-
-    def show(self):
-        event = self.event
-        self.expect("standings", *event.standings())
-        self.expect("players", *event.players())
-        self.expect("round 1", *event.slips(1))
-        self.expect("where", where_due("Friday Night", self.file, event))
-
-    def play(self):
-        """The rounds, with a late player, a drop and corrections, and the playoff."""
-        event = self.event
-        for number in (1, 2, 3):
-            self.pair()
-            tables = len([it for it in event.stored[-1] if it[1]])
-            self.expect(
-                "open",
-                *(f"{table} {player_shown(event, it[0])} - {player_shown(event, it[1])}" for table, it in enumerate(event.stored[-1], 1) if it[1]),
-            )
-            for table in range(1, tables + 1):
-                self.result(table, ((2, 1, 0), (0, 0, 3), (1, 2, 1), (2, 0, 0), (0, 2, 0))[(table + number) % 5])
-            self.fix(number, 1, (0, 2, 0))
-            if number == 1:
-                answer = event.enrol("Late Lou")
-                self.taken("enrol Late Lou", answer, "Late Lou (10) is enrolled.", "Round 1 is lost, without an opponent.")
-                self.drop("Lou", 10)
-            if number == 2:
-                self.drop("2", 2)
-            self.show()
-        self.cut()
-        while event.phase == PLAYOFF:
-            self.score_slot()
-        self.expect("bracket", *event.bracket())
-        self.expect("where", where_due("Friday Night", self.file, event))
-
-    def cut(self):
-        """It shows who is in, and asks back."""
-        self.expect("cut", "The playoff would begin so:")
-        self.expect("n", "The playoff was not begun.")
-        answer = self.event.end_rounds()
-        self.expect("cut", "The playoff would begin so:")
-        self.taken("y", answer, *self.event.bracket())
-
-    def score_slot(self):
-        event = self.event
-        stage = len(event.stages)
-        slot = next(at for at, match in enumerate(event.stages[-1], 1) if not match[2])
-        match = event.stages[-1][slot - 1]
-        answer = event.play(stage, slot, (1, 2, 0))
-        self.taken(f"play {stage} {slot} 1 2", [f"Stage {stage}, slot {slot}: {match_shown(event, match, (1, 2, 0))}"], answer[0], next_due(event))
-
-    def end(self, name):
-        check(f"{name}, the file", rows_alone(self.file), rows_of(self.event, "Friday Night"))
-        check(f"{name}, a key a round", [number for number, _ in keys_of(self.file)], [1, 2, 3])
-        befores = [re.sub(r"^\d+-\d+-\d+-", "", it) for it in sorted(os.listdir(f"{self.file}.copies"))]
-        due = ["pair-1", "drop-10", "pair-2", "drop-2", "pair-3", "cut", "play-1-1", "play-1-2", "play-2-1"]
-        check(f"{name}, the copies", befores, [f"before-{it}.event" for it in due])
-
-
-class Piped:
-    """The prompt, fed by a pipe line by line. There is no prompt, so what a line is answered is told by a line `keys` behind it, whose answer is known."""
-
-    def __init__(self, file):
-        self.process = subprocess.Popen(
-            words_for(file), stdin=subprocess.PIPE, stdout=subprocess.PIPE, stderr=subprocess.STDOUT, env=LETTERS, bufsize=0
-        )
-        self.said = b""
-        self.asks = False
-
-    def read_until(self, is_end):
-        said = b""
-        while not is_end(said):
-            if not select.select([self.process.stdout], [], [], PATIENCE)[0]:
-                return said + b".. and then nothing came"
-            more = os.read(self.process.stdout.fileno(), 65536)
-            if not more:
-                break
-            said += more
-        return said
-
-    def send(self, line):
-        """What a line is answered. A question is said once its answer came."""
-        lines = [line] if self.asks else [line, "foo bar"]
-        if line.startswith(("drop ", "cut")):
-            # the answer comes with the next line
-            self.pending, self.asks = line, True
-            return "The playoff would begin so:" if line == "cut" else f"Drop {self.shown(line)}?"
-        if self.asks:
-            lines, self.asks = [self.pending, line, "foo bar"], False
-        self.process.stdin.write("".join(f"{it}\n" for it in lines).encode())
-        return self.read_until(lambda text: text.endswith(b"foo is no command. See: help\n")).decode()
-
-    def shown(self, line):
-        return {"drop Lou": "Late Lou (10)", "drop 2": "Bo (2)"}[line]
-
-    def end(self):
-        self.process.stdin.close()
-        self.process.wait(PATIENCE)
-        return self.process.returncode
-
-
-class Terminal:
-    """The prompt in a terminal of its own."""
-
-    def __init__(self, file, by=None, env=LETTERS, python=PYTHON, begins=None):
-        self.child, self.master = pty.fork()
-        if self.child == 0:
-            os.execvpe(python[0], words_for(file, by=by, python=python), env)
-        self.began = self.read_for(begins) if begins else self.read()
-
-    def read_for(self, piece):
-        """What comes until this piece of it is there, among all that moves the cursor."""
-        said, until = b"", time.monotonic() + PATIENCE
-        while piece not in said and time.monotonic() < until:
-            if select.select([self.master], [], [], 0.2)[0]:
-                said += os.read(self.master, 65536)
-        return said.decode("utf-8", "replace")
-
-    def read(self, ends=(PROMPT, QUESTION)):
-        said = b""
-        while not said.endswith(ends):
-            if not select.select([self.master], [], [], PATIENCE)[0]:
-                return said.decode() + ".. and then nothing came"
-            try:
-                more = os.read(self.master, 65536)
-            except OSError:
-                break
-            if not more:
-                break
-            said += more
-        return said.decode().replace("\r\n", "\n")
-
-    def keys(self, text):
-        os.write(self.master, text.encode())
-
-    def send(self, line):
-        self.keys(f"{line}\r")
-        return self.read()
-
-    def interrupt(self):
-        """Ctrl-C, and what is said then. Python passes over one that comes just before it waits for a key, so it is pressed until something is said."""
-        for _ in range(PATIENCE // 5):
-            self.keys("\x03")
-            if select.select([self.master], [], [], 5)[0]:
-                break
-        return self.read()
-
-    def end(self, keys="\x04"):
-        """The status, and what is said at the end."""
-        self.keys(keys)
-        said = self.read(ends=(b"\0",))
-        return self.ended(), said
-
-    def ended(self, keys=""):
-        """The status once it has ended. The keys are pressed each second until then, since those that come just before it waits for one are dropped; a
-        prompt that goes on all the same is killed.
-        """
-        for _ in range(PATIENCE):
-            with contextlib.suppress(OSError):
-                self.keys(keys)
-            until = time.monotonic() + 1
-            while time.monotonic() < until:
-                child, ended = os.waitpid(self.child, os.WNOHANG)
-                if child:
-                    os.close(self.master)
-                    return os.WEXITSTATUS(ended) if os.WIFEXITED(ended) else -os.WTERMSIG(ended)
-                self.pass_over()
-        os.kill(self.child, signal.SIGKILL)
-        os.waitpid(self.child, 0)
-        os.close(self.master)
-        return -signal.SIGKILL
-
-    def pass_over(self):
-        """Reads what is written to the terminal now, if anything is."""
-        try:
-            if select.select([self.master], [], [], 0.05)[0]:
-                os.read(self.master, 65536)
-        except OSError:
-            time.sleep(0.05)
-
-
-def run_pipe(room):
-    """An evening through a pipe."""
-    file = f"{room}/friday.event"
-    prompt = Piped(file)
-    played = Evening(file, prompt.send)
-    played.enrol()
-    played.play()
-    check("the pipe ends", prompt.end(), 1)
-    played.end("through a pipe")
-
-
-def run_terminal(room):
-    """The same through a terminal, with completion, history and Ctrl-C; Ctrl-D ends it."""
-    file = f"{room}/friday.event"
-    prompt = Terminal(file)
-    check_said("the beginning", prompt.began, "refused 27 NoEvent", "init Friday Night 3 0", "desk> ")
-    played = Evening(file, prompt.send)
-    played.enrol()
-    prompt.keys("who Zo\t\r")
-    check_said("a name is completed", prompt.read(), "who Zoë <b>", "4   Zoë <b>")
-    prompt.keys("stand\t\r")
-    check_said("a command is completed", prompt.read(), "standings", "Rank   No Pts")
-    prompt.keys("\x1b[A\r")
-    check_said("the line before comes again", prompt.read(), "standings", "Rank   No Pts")
-    prompt.keys("drop 1")
-    time.sleep(0.2)
-    check_said("Ctrl-C takes a line away", prompt.interrupt(), "Ctrl-D ends.", "desk> ")
-    prompt.send("drop 1")
-    check_said("Ctrl-C is no yes", prompt.interrupt(), "Nobody was dropped.")
-    played.play()
-    status, text = prompt.end()
-    check("Ctrl-D ends it", (status, "Traceback" in text), (0, False))
-    played.end("through a terminal")
-
-
-def run_without_readline(room):
-    """A Python that has no `readline`: the prompt goes on without completion and history."""
-    with open(f"{room}/readline.py", "w") as it:
-        it.write("raise ImportError\n")
-    event, file = started(room, ["Ana", "Bo"])
-    prompt = Terminal(file, env={**LETTERS, "PYTHONPATH": room})
-    check_said("without readline, a command", prompt.send("standings"), *event.standings())
-    check("without readline, the end", prompt.end()[0], 0)
-
-
-def run_menus(room):
-    """By prompt_toolkit, where it is installed: a part of a name brings a menu, from which TAB takes the player; and lines that are pasted behind a
-    question are no answer to it.
-    """
-    if importlib.util.find_spec("prompt_toolkit") is None:
-        left_out("menus at a terminal", "python3-prompt-toolkit is not installed")
-        return
-    event, file = started(room, ["Ana Lima", "Bo Sato", "Cy Young", "Di Ito"])
-    said(file, "pair")
-    prompt = Terminal(file, env={**LETTERS, "TERM": "xterm"}, python=(sys.executable, "-B"), begins=b"desk>")
-    prompt.keys("who sat")
-    check("menus, what is offered", "Bo Sato (2)" in prompt.read_for(b"Bo Sato (2)"), True)
-    prompt.keys("\t\r")
-    check("menus, TAB takes it", " Bo Sato  table " in prompt.read_for(b" Bo Sato  table "), True)
-    prompt.keys("\x1b[200~drop Ana\n1 2 0\n2 2 1\x1b[201~\r")
-    check("menus, pasted lines are no answer", "all its scores" in prompt.read_for(b"all its scores"), True)
-    check("menus, the end", prompt.ended("\x04"), 0)
-    check("menus, the file", (read(file).dropped, [score for _, _, score in read(file).stored[0]]), (set(), [(2, 0, 0), (2, 1, 0)]))
 
 
 # ---- each refusal
@@ -1174,7 +808,7 @@ def run_interrupted(room):
     event, file = started(room, ["Ana", "Bo", "Cy", "Di"])
     said(file, "pair")
     begun = f"{room}/begun"
-    prompt = Terminal(file, by=stand_in(room, f'[ "$1" = result ] && : > {begun} && sleep 0.6\nexec "$REAL" "$@"'))
+    prompt = Terminal(words_for(file, by=stand_in(room, f'[ "$1" = result ] && : > {begun} && sleep 0.6\nexec "$REAL" "$@"')))
     prompt.keys("1 2 0\r")
     until = time.monotonic() + PATIENCE
     while not os.path.exists(begun) and time.monotonic() < until:
@@ -1499,10 +1133,6 @@ def count_keys():
 
 
 PARTS = [
-    run_pipe,
-    run_terminal,
-    run_without_readline,
-    run_menus,
     run_refusals_of_players,
     run_refusals_of_rounds,
     run_refusals_of_the_file,

@@ -2,7 +2,7 @@
 
 These are the transcripts and *.answers in examples, the output of examples/friday.txt, what stands beneath the lines that README and GUIDE show, and
 the lists that EXAMPLES, RULES and other blocks of the documents have in common with these. A line is typed with a program of the plain reading. What that
-one doesn't have, such as a usage text, stays as it is. Read the diff; scripts/examples then compares the program with all of it.
+one doesn't have, such as a usage text, stays as it is. Read the diff; `scripts/test examples` then compares the program with all of it.
 """
 import argparse
 import glob

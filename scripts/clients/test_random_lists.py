@@ -6,16 +6,16 @@ who is enrolled, without its log.
 import csv
 import io
 import random
-import subprocess
-import sys
-import tempfile
 
-from scripts.clients.event_files import rows_alone, rows_of, run
-from scripts.clients.tally import check, dice_of, end
+import pytest
+
+from scripts.clients.event_files import rows_alone, rows_of
 from scripts.models.plain_csv import imported, players_rows, records, results_rows, written
 from scripts.models.plain_event import Event
 from scripts.models.random_play import random_event
 
+# how many of them are tried, and how many with --long; fifty damaged lists to a group
+CASES = {"number": (40, 300), "group": (8, 40)}
 PIECES = ["Ana", "Bo", "Lee", "Jo", "Zoë", "大会", "O'Neil", ",", '"', '""', ";", "-", "D", "no", "name", "=1+1", "#", "\u00a0", "🂡", "x" * 20]
 TURNS = b'",;\r\n\t \0\xef\xbb\xbf\xff019a-'
 
@@ -51,78 +51,61 @@ def damaged(dice, data):
     return bytes(data)
 
 
-class Files:
+class Imports:
     """An event file and the plain event that it holds."""
 
     def __init__(self, program, room, name):
         self.program, self.file, self.list, self.event = program, f"{room}/{name}", f"{room}/list.csv", Event(3, 0)
-        check("init", self.run("init", "E", "3", "0"), (0, b"ok 0\n", b""))
+        assert program.run("init", self.file, "E", "3", "0") == (0, b"ok 0\n", b"")
 
-    def run(self, name, *rest):
-        return run(self.program, [name, self.file, *rest])
-
-    def take(self, what, data):
+    def take(self, data):
         """Imports a list, and checks that it is answered as the rules have it."""
         with open(self.list, "wb") as it:
             it.write(data)
-        due = imported(self.event, data)
-        check(f"{what}: {data!r}", self.run("import", self.list), due)
-        check(f"{what}, the file alone", rows_alone(self.file), rows_of(self.event))
+        assert self.program.run("import", self.file, self.list) == imported(self.event, data), data
+        assert rows_alone(self.file) == rows_of(self.event), f"the file alone, after {data!r}"
 
-    def exported(self, what):
-        got = self.run("export", "players")
-        check(f"{what}, exported", got, (0, written(players_rows(self.event)), b""))
+    def exported(self):
+        got = self.program.run("export", self.file, "players")
+        assert got == (0, written(players_rows(self.event)), b"")
         return got[1]
 
 
-def through(program, dice):
-    """A list into an event, its export into a second one, and an event that is played."""
-    with tempfile.TemporaryDirectory() as room:
-        one, other = Files(program, room, "one"), Files(program, room, "other")
-        one.take("a list", random_list(dice, 40))
-        out = one.exported("a list")
-        check("read by Python", [[it.decode() for it in row] for row in records(out)], players_rows(one.event))
-        other.take("an export", out)
-        check("the same players", other.event.names, one.event.names)
-        other.exported("an export")
+@pytest.fixture
+def imports(program, room):
+    return lambda name: Imports(program, room, name)
 
 
-def play(program, dice, number):
+def test_through(imports, dice, number):
+    """A list into an event, and its export into a second one."""
+    one, other = imports("one"), imports("other")
+    one.take(random_list(dice, 40))
+    out = one.exported()
+    assert [[field.decode() for field in row] for row in records(out)] == players_rows(one.event), "read by Python"
+    other.take(out)
+    assert other.event.names == one.event.names
+    other.exported()
+
+
+def test_exports_of_an_event(program, dice, number):
     """The tables of an event that is played, at random instants."""
     lines, answers = [], []
 
     def note(line, answer, event):
         lines.append(line)
-        answers.append("".join(it + "\n" for it in answer).encode())
+        answers.append("".join(f"{text}\n" for text in answer).encode())
         if dice.random() < 0.1:
             kind, rows = dice.choice((("players", players_rows), ("results", results_rows)))
             lines.append(f"export\t{kind}")
             answers.append(written(rows(event)))
 
     random_event(note, random.Random(dice.random()), number)
-    ran = subprocess.run([program], input="".join(it + "\n" for it in lines).encode(), capture_output=True, timeout=60)
-    check(f"an event with exports, {number}", (ran.returncode, ran.stdout, ran.stderr), (0, b"".join(answers), b""))
+    assert program.fed("".join(f"{line}\n" for line in lines).encode()) == (0, b"".join(answers), b"")
 
 
-def damage(program, dice, count):
-    """So many damaged lists, fifty into each event."""
-    done = 0
-    while done < count:
-        with tempfile.TemporaryDirectory() as room:
-            files = Files(program, room, "e.event")
-            for _ in range(min(50, count - done)):
-                files.take("damaged", damaged(dice, random_list(dice, 6)))
-                done += 1
-            files.exported("damaged lists")
-
-
-def main(program, lists, damages, seed):
-    dice = dice_of(seed)
-    for number in range(lists):
-        through(program, dice)
-        play(program, dice, number)
-    damage(program, dice, damages)
-    end(f"random lists: {lists} lists and as many events, and {damages} damaged lists")
-
-
-main(sys.argv[1], int(sys.argv[2]), int(sys.argv[3]), int(sys.argv[4]))
+def test_damaged(imports, dice, group):
+    """Fifty damaged lists into one event."""
+    files = imports("e.event")
+    for _ in range(50):
+        files.take(damaged(dice, random_list(dice, 6)))
+    files.exported()

@@ -1,0 +1,49 @@
+"""The program as it is built: its command lines and scripts. An `assert` here is no check: it guards what a test builds on."""
+import resource
+import signal
+import subprocess
+
+
+class Program:
+    def __init__(self, path):
+        self.path = path
+
+    def run(self, *words, **how):
+        """The status, the output and the errors of a command line."""
+        how.setdefault("stdin", subprocess.DEVNULL)
+        ran = subprocess.run([how.pop("path", self.path), *words], capture_output=True, timeout=60, **how)
+        return ran.returncode, ran.stdout, ran.stderr
+
+    def fed(self, data, *words):
+        """The same where it reads these bytes: as a script, if there are no words."""
+        ran = subprocess.run([self.path, *words], input=data, capture_output=True, timeout=60)
+        return ran.returncode, ran.stdout, ran.stderr
+
+    def did(self, *words):
+        """What a command line prints that has to be taken."""
+        status, out, err = self.run(*words)
+        assert status == 0, (words, status, err)
+        return out
+
+    def narrowly(self, most, *words):
+        """A command line while no file can have more bytes than these."""
+
+        def narrow():
+            signal.signal(signal.SIGXFSZ, signal.SIG_IGN)
+            resource.setrlimit(resource.RLIMIT_FSIZE, (most, most))
+
+        return self.run(*words, preexec_fn=narrow, restore_signals=False)
+
+    def played(self, file, lines=(), title="Friday", rounds=3, cut=0):
+        """An event in a file, of which these lines are taken: `["enrol", "Ana"]`."""
+        self.did("init", file, title, str(rounds), str(cut))
+        for name, *rest in lines:
+            self.did(name, file, *rest)
+        return file
+
+
+def laid(room, name, data):
+    """A file with these bytes."""
+    with open(f"{room}/{name}", "wb") as it:
+        it.write(data)
+    return f"{room}/{name}"

@@ -1,0 +1,155 @@
+"""What the suites that run the program share: its options, its fixtures, and an honest count.
+
+A check is an `assert` that was reached. Those that hold are counted by pytest's own hook, so that a test of twenty steps counts twenty; a test that
+asserts nothing fails. What is missing on this machine is left out by `@pytest.mark.needs`, and the end says so in a line that begins `left out: `.
+"""
+import importlib.util
+import os
+import random
+import shutil
+import signal
+import tempfile
+
+import pytest
+
+from scripts import TOP, commit_time
+from scripts.clients.program import Program
+from scripts.clients.serving import Serving
+
+# helpers in which an `assert` is a check too
+pytest.register_assert_rewrite("scripts.clients.prompt")
+
+held, replays = pytest.StashKey[int](), pytest.StashKey[list]()
+
+
+def pytest_addoption(parser):
+    words = parser.getgroup("event_reporter")
+    words.addoption("--program", default=f"{TOP}/crates/event_reporter/out/event_reporter", help="the program; without it, the one that is built here")
+    words.addoption("--seed", type=int, help="play the random ones of this number again; without it, the time of the commit")
+    words.addoption("--long", action="store_true", help="try much more, outside the test command")
+
+
+def pytest_configure(config):
+    if not hasattr(config.option, "seed"):
+        raise pytest.UsageError("call scripts/test, or name a folder or a file: pytest scripts/clients")
+    if config.option.seed is None:
+        config.option.seed = commit_time()
+    config.option.program = os.path.abspath(config.option.program)
+    config.stash[held], config.stash[replays] = 0, []
+    # where this runs behind others, the shell may have had Ctrl-C ignored, and what it starts would ignore it too
+    if signal.getsignal(signal.SIGINT) is signal.SIG_IGN:
+        signal.signal(signal.SIGINT, signal.default_int_handler)
+    if not os.access(config.option.program, os.X_OK):
+        raise pytest.UsageError(f"no program at {config.option.program}: sh scripts/build makes it")
+
+
+# ---- the count
+
+
+def pytest_assertion_pass(item):
+    item.config.stash[held] += 1
+    item.stash[held] = item.stash.get(held, 0) + 1
+
+
+@pytest.hookimpl(hookwrapper=True)
+def pytest_runtest_makereport(item, call):
+    report = (yield).get_result()
+    if report.when == "call" and report.passed and not item.stash.get(held, 0):
+        report.outcome, report.longrepr = "failed", f"{item.nodeid} asserts nothing"
+    if report.failed:
+        item.config.stash[replays].append(f"scripts/test 'scripts/{item.nodeid}' --seed {item.config.option.seed} -vv")
+
+
+def pytest_terminal_summary(terminalreporter, config):
+    """The lines that the test command gathers, and how to run again what failed."""
+    left_out = {it.longrepr[2].partition("Skipped: ")[2] for it in terminalreporter.stats.get("skipped", ())}
+    for it in sorted(left_out):
+        terminalreporter.line(f"left out: {it}")
+    for it in dict.fromkeys(config.stash[replays]):
+        terminalreporter.line(f"again: {it}")
+    failed = sum(len(terminalreporter.stats.get(it, ())) for it in ("failed", "error"))
+    terminalreporter.line(f"seed {config.option.seed}: {config.stash[held]} checks passed, {failed} failed")
+
+
+# ---- what a machine may lack
+
+
+def pytest_runtest_setup(item):
+    for mark in item.iter_markers("needs"):
+        reason = missing(**mark.kwargs)
+        if reason:
+            pytest.skip(f"{mark.args[0]}, as {reason}")
+
+
+def missing(module=None, command=None, package=None, root=False):
+    if module and importlib.util.find_spec(module) is None:
+        return f"{package or module} is not installed"
+    if command and shutil.which(command) is None:
+        return f"{package or command} is not installed"
+    return "this user can't become another one" if root and os.geteuid() else None
+
+
+# ---- how much is tried
+
+
+def pytest_generate_tests(metafunc):
+    """`@pytest.mark.parametrize` for what is random: `CASES = {"number": (400, 4000)}` in a module gives that many numbers, and more with --long."""
+    for name, (few, many) in getattr(metafunc.module, "CASES", {}).items():
+        if name in metafunc.fixturenames:
+            metafunc.parametrize(name, range(many if metafunc.config.option.long else few))
+
+
+@pytest.fixture
+def seed(request):
+    return request.config.option.seed
+
+
+@pytest.fixture
+def dice(request, seed):
+    """Dice of this case alone, so that it is the same whichever others run."""
+    return random.Random(f"{seed} {request.node.name}")
+
+
+# ---- the program, and where it runs
+
+
+@pytest.fixture(scope="session")
+def program(request):
+    return Program(request.config.option.program)
+
+
+@pytest.fixture
+def room():
+    """An empty folder. It is no `tmp_path`: those lie below a folder that other users can't go through, and three runs of them are kept."""
+    with tempfile.TemporaryDirectory() as folder:
+        yield folder
+
+
+@pytest.fixture(scope="session")
+def extras():
+    """The folder of the companions."""
+    return f"{TOP}/extras"
+
+
+@pytest.fixture
+def prompt(program, extras):
+    """The scorekeeper's prompt, by a pipe or in a terminal of its own. What still runs at the end is killed."""
+    # not at the head: it has to be imported once its checks are counted
+    from scripts.clients.prompt import Prompt
+
+    with Prompt(program.path, f"{extras}/desk.py") as it:
+        yield it
+
+
+@pytest.fixture
+def serve(program):
+    """Serves a file: `serve(file, 2).ask(b"..")`. What still serves at the end is killed."""
+    serving = []
+
+    def begin(file, count, **how):
+        serving.append(Serving(program.path, file, count, **how))
+        return serving[-1]
+
+    yield begin
+    for it in serving:
+        it.kill()
