@@ -1,13 +1,27 @@
 """Names of players as they are shown, looked for and sorted."""
 from __future__ import annotations
 
+import re
 import unicodedata
-from typing import Tuple
+from functools import lru_cache
+from typing import Callable, Iterable, List, Tuple, TypeVar
 
 # marks by which a name could turn what stands beside it
 TURNING = set("\u202a\u202b\u202c\u202d\u202e\u2066\u2067\u2068\u2069\u200e\u200f\u061c")
 
+# letters that Unicode doesn't take apart, as they are typed where a keyboard hasn't them
+SPELT = str.maketrans({
+    "ł": "l", "ø": "o", "đ": "d", "ð": "d", "ħ": "h", "ŧ": "t", "ǥ": "g", "ı": "i", "ĸ": "k",
+    "æ": "ae", "œ": "oe", "þ": "th", "ŋ": "ng", "ə": "e", "ǝ": "e",
+    "ɓ": "b", "ɖ": "d", "ɗ": "d", "ɛ": "e", "ƒ": "f", "ɣ": "g", "ɨ": "i", "ƙ": "k",
+    "ɲ": "n", "ɔ": "o", "ʉ": "u", "ʋ": "v", "ƴ": "y",
+})
+# what people type for an apostrophe, and what stands for one in other spellings
+APOSTROPHES = "'`\u00b4\u2018\u2019\u201b\u2032\u02b9\u02bb\u02bc\u02bd\u02be\u02bf"
+MINUS, MIDDLE_DOT = "\u2212", "\u00b7"
+
 SortKey = Tuple[str, str]
+Thing = TypeVar("Thing")
 
 
 def visible(text: str) -> str:
@@ -21,17 +35,78 @@ def is_turning(letter: str) -> bool:
     return letter in TURNING or (unicodedata.category(letter) in ("Cc", "Zl", "Zp") and letter != "\n")
 
 
+def is_hyphen(letter: str) -> bool:
+    return letter == MINUS or unicodedata.category(letter) == "Pd"
+
+
+def is_passed_over(letter: str) -> bool:
+    """What nobody types to find a name: accents, apostrophes, hyphens, and what is not seen."""
+    return (
+        unicodedata.combining(letter) != 0
+        or letter in APOSTROPHES
+        or letter == MIDDLE_DOT
+        or is_hyphen(letter)
+        or unicodedata.category(letter) == "Cf"
+    )
+
+
 def plain(text: str) -> str:
-    """A name as people look for it, without accents and letter case."""
-    letters = unicodedata.normalize("NFKD", text)
-    return "".join(letter for letter in letters if not unicodedata.combining(letter)).casefold()
+    """A name as people look for it: without accents, letter case, apostrophes and hyphens, with one space
+    where there are several, and with L for a letter such as Ł.
+    """
+    # an acute accent that stands alone would become a space
+    letters = unicodedata.normalize("NFKD", text.replace("\u00b4", ""))
+    kept = "".join(letter for letter in letters if not is_passed_over(letter))
+    return " ".join(kept.casefold().translate(SPELT).split())
 
 
 def compared(name: str) -> str:
-    """Two names that agree in this look alike: composed and decomposed letters, small and capital ones."""
-    return unicodedata.normalize("NFC", unicodedata.normalize("NFC", name).casefold())
+    """Two names that agree in this look alike: composed and decomposed letters, small and capital ones, one
+    space or several, apostrophes and hyphens of any kind, and what is not seen.
+    """
+    letters = (same_sign(letter) for letter in name if unicodedata.category(letter) != "Cf")
+    text = " ".join("".join(letters).split())
+    return unicodedata.normalize("NFC", unicodedata.normalize("NFC", text).casefold())
+
+
+def same_sign(letter: str) -> str:
+    return "'" if letter in APOSTROPHES else "-" if is_hyphen(letter) else letter
+
+
+@lru_cache(maxsize=4096)
+def plain_name(name: str) -> str:
+    """The same of a name, which is asked for again and again."""
+    return plain(name)
+
+
+@lru_cache(maxsize=4096)
+def words_of(name: str) -> Tuple[str, ...]:
+    """The words that may be typed for a name. Lima-Sato is one word, and two."""
+    parts = re.findall(r"\w+", unicodedata.normalize("NFC", name))
+    return *plain_name(name).split(), *map(plain, parts)
 
 
 def sort_key(name: str) -> SortKey:
-    """Accents and letter case don't part what people look for in one place."""
-    return plain(name), name
+    """Accents, letter case, apostrophes and hyphens don't part what people look for in one place."""
+    return plain_name(name), name
+
+
+def found_by(part: str, things: Iterable[Thing], name_of: Callable[[Thing], str]) -> List[Thing]:
+    """Those in whose name each typed word is, in whatever order they were typed. The name itself comes first,
+    then names that begin so, then those with words that begin so, and then those that only hold it.
+    """
+    whole = plain(part)
+    typed = plain("".join(" " if letter == "," or is_hyphen(letter) else letter for letter in part)).split()
+    if not typed:
+        # nothing, or signs alone, as a hyphen
+        return [thing for thing in things if part.strip() in name_of(thing)]
+    found = [thing for thing in things if all(word in plain_name(name_of(thing)) for word in typed)]
+    return sorted(found, key=lambda thing: how_far_off(name_of(thing), whole, typed))
+
+
+def how_far_off(name: str, whole: str, typed: List[str]) -> int:
+    if plain_name(name) == whole:
+        return 0
+    if plain_name(name).startswith(whole):
+        return 1
+    return 2 if all(any(word.startswith(it) for word in words_of(name)) for it in typed) else 3

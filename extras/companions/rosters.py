@@ -18,8 +18,10 @@ from companions.program import Declined
 ALONE = ("name", "player", "player name", "full name")
 FIRST = ("first name", "first", "firstname", "given name", "forename")
 LAST = ("last name", "last", "lastname", "surname", "family name")
+CLUB = ("club", "team", "store", "shop", "city", "town")
 DELIMITERS = {",": "commas", ";": "semicolons", "\t": "TABs"}
 MOST_BYTES_OF_A_NAME = 60
+MOST_NAMES = 512
 LONGEST_LIST = 4_000_000
 # western Europe, and central Europe; and those of other letters
 LATIN = ("cp1252", "cp1250")
@@ -184,6 +186,11 @@ def columns_of(heading: Fields) -> list[int]:
     return [] if first is None or last is None else [first, last]
 
 
+def field_of(fields: Fields, column: Optional[int]) -> str:
+    """What stands in a column, if the row goes so far."""
+    return tidy(fields[column]) if column is not None and column < len(fields) else ""
+
+
 def table_of(text: str) -> Table:
     """The rows by the delimiter that makes most columns of the heading."""
     first = next((line for line in text.split("\n") if line.strip()), "")
@@ -233,36 +240,54 @@ def roster_of(data: bytes, enrolled: set[str], codec: str = "") -> Roster:
     titles = visible(" and ".join(tidy(table.heading[column]) for column in columns))
     delimited = f", {DELIMITERS[table.delimiter]}" if len(table.heading) > 1 else ""
     roster = Roster(f"{encoding}{delimited}, the column{'s' if len(columns) > 1 else ''} {titles}", is_guess)
-    seen: dict[str, int] = {}
-    looks = {compared(name): name for name in enrolled}
+    sorting, club = Sorting(roster, enrolled), column_of(table.heading, CLUB)
     for place, fields in enumerate(table.rows[table.top + 1 :], table.top + 2):
-        name = tidy(" ".join(fields[column] for column in columns if column < len(fields)))
+        name = tidy(" ".join(field_of(fields, column) for column in columns))
         if any(map(tidy, fields)):
-            sort_in(roster, seen, looks, place, name, enrolled)
+            sorting.add(place, name, field_of(fields, club))
     return roster
 
 
-def sort_in(
-    roster: Roster, seen: dict[str, int], looks: dict[str, str], place: int, name: str, enrolled: set[str]
-) -> None:
-    fault = why_not(name)
-    shown = visible(name)
-    if fault:
-        roster.left_out.append(f"row {place}: {fault}")
-    elif name in seen:
-        roster.left_out.append(
-            f"row {place}: {shown}, as in row {seen[name]}. If these are two, tell them apart,\n"
-            f"         as: {shown} (Owls)"
-        )
-    else:
-        seen[name] = place
-        other = looks.setdefault(compared(name), name)
-        if name in enrolled:
-            roster.already.append(name)
-        elif other != name:
-            roster.alike.append(Alike(place, name, other))
+class Sorting:
+    """Sorts the rows of a list into a roster, one after the other."""
+
+    def __init__(self, roster: Roster, enrolled: set[str]):
+        self.roster, self.enrolled = roster, enrolled
+        # the row of each name, and the clubs of all rows that have it
+        self.rows: dict[str, int] = {}
+        self.clubs: dict[str, set[str]] = {}
+        self.looks = {compared(name): name for name in enrolled}
+        self.advised: set[str] = set()
+
+    def add(self, place: int, name: str, club: str) -> None:
+        roster, fault = self.roster, why_not(name)
+        if fault:
+            roster.left_out.append(f"row {place}: {fault}")
+        elif name in self.rows:
+            same = f"row {place}: {visible(name)}, as in row {self.rows[name]}"
+            apart = visible(self.told_apart(name, club))
+            roster.left_out.append(f"{same}. If these are two, tell them apart,\n         as: {apart}")
         else:
-            roster.names.append(name)
+            self.rows[name] = place
+            other = self.looks.setdefault(compared(name), name)
+            if name in self.enrolled:
+                roster.already.append(name)
+            elif other != name:
+                roster.alike.append(Alike(place, name, other))
+            else:
+                roster.names.append(name)
+        self.clubs.setdefault(name, set()).add(compared(club))
+
+    def told_apart(self, name: str, club: str) -> str:
+        """The name with the club of this row, where no other of this name is in that; or with a number."""
+        with_club = [f"{name} ({club})"] if club and compared(club) not in self.clubs[name] else []
+        numbered = [f"{name} ({number})" for number in range(2, MOST_NAMES)]
+        told = next(filter(self.is_free, with_club + numbered), numbered[0])
+        self.advised.add(compared(told))
+        return told
+
+    def is_free(self, name: str) -> bool:
+        return not why_not(name) and compared(name) not in self.looks and compared(name) not in self.advised
 
 
 @contextlib.contextmanager

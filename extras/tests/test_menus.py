@@ -13,6 +13,7 @@ PLAYERS = [
     Player(7, "Bo Sato", False),
     Player(9, "Sara Bo", False),
     Player(10, "x\u202ey", False),
+    Player(12, "Łukasz O’Brien", False),
 ]
 
 
@@ -27,7 +28,8 @@ def test_a_part_of_a_name_offers_the_players_who_have_it():
     assert [(it.text, it.shown) for it in offers("who sa")] == [
         ("Sara Bo", "Sara Bo (9)"), ("Bo Sato", "Bo Sato (7)")
     ]
-    assert [it.text for it in offers("who ")] == ["Ana Lima", "Bo Sato", "Sara Bo"]
+    assert [it.text for it in offers("who ")] == ["Ana Lima", "Bo Sato", "Sara Bo", "Łukasz O’Brien"]
+    assert [it.text for it in offers("who obrien luk")] == ["Łukasz O’Brien"]
 
 
 def within_seconds(is_so):
@@ -39,6 +41,7 @@ def within_seconds(is_so):
 @pytest.mark.parametrize("typed, line", [
     ("who sat", "who Bo Sato"),
     ("who lim", "who Ana Lima"),
+    ("drop o'brien", "drop Łukasz O’Brien"),
     ("stan", "standings"),
 ])
 def test_the_tab_key_takes_what_the_menu_offers(typed, line):

@@ -1,6 +1,6 @@
 import pytest
-from companions.names import plain, sort_key, visible
-from scripts.clients.random_evenings import HOSTILE
+from companions.names import compared, found_by, plain, sort_key, visible
+from scripts.clients.random_evenings import FIRST_NAMES, HOSTILE
 from scripts.models.plain_page import folded
 
 
@@ -31,6 +31,102 @@ def test_names_are_looked_for_without_accents_and_letter_case():
     assert plain("Zoe\u0308") == plain("Zoë") == "zoe"
 
 
+LETTERS = [
+    *map(chr, [*range(0xC0, 0xD7), *range(0xD8, 0xF7), *range(0xF8, 0x180)]),
+    *"ẞǤǥǾǿƏəƁɓƊɗƉɖƐɛƑƒƔɣƗɨƘƙƝɲƆɔɄʉƲʋƳƴƎǝƠơƯư",
+]
+
+
+def test_each_letter_of_a_latin_alphabet_is_typed_with_26():
+    for letter in LETTERS:
+        assert plain(letter).isascii() and plain(letter), letter
+        assert plain(letter) == folded(letter), letter
+
+
+@pytest.mark.parametrize("typed, name", [
+    ("lukasz", "Łukasz Wiśniewski"),
+    ("soren", "Søren Æbelø"),
+    ("aebelo", "Søren Æbelø"),
+    ("ostergard", "Øystein Østergård"),
+    ("djordje dordevic", "Djordje Đorđević"),
+    ("isik", "Ayşe IŞIK"),
+    ("isik", "Ayşe ışık"),
+    ("strasse", "Hugo STRAẞE"),
+    ("thorunn gudmundsdottir", "Þórunn Guðmundsdóttir"),
+    ("aliyev", "Aliyev Elçin"),
+    ("obrien", "Pat O'Brien"),
+    ("o'brien", "Pat O’Brien"),
+    ("o’brien", "Pat O'Brien"),
+    ("o´brien", "Pat O'Brien"),
+    ("O`BRIEN", "Pat OBrien"),
+    ("annalena", "Anna-Lena Voss"),
+    ("anna-lena", "Anna Lena Voss"),
+    ("lena voss", "Anna\u2010Lena Voss"),
+    ("smith anna", "Anna Smith"),
+    ("Smith, Anna", "Anna Smith"),
+    ("ann two", "Ann  Two"),
+    ("ann\u00a0two", "Ann Two"),
+    ("ann two", "Ann\u2003Two"),
+    ("owls", "Bo (Owls)"),
+    ("galla", "Gal·la"),
+    ("大会", "大会 Zoë"),
+])
+def test_who_is_found(typed, name):
+    assert found_by(typed, [name, "Jo Qux"], str) == [name]
+
+
+NAMES = [
+    "Paul Hoffmann", "Lea Annis", "Anna Smith", "Eva Neumann", "Holm Ann", "Ann", "Annika Holm", "Pat O'Brien",
+    "-x",
+]
+
+
+@pytest.mark.parametrize("typed, found", [
+    ("ann", ["Ann", "Anna Smith", "Annika Holm", "Lea Annis", "Holm Ann", "Paul Hoffmann", "Eva Neumann"]),
+    ("anna s", ["Anna Smith"]),
+    ("smith a", ["Anna Smith"]),
+    ("holm ann", ["Holm Ann", "Annika Holm"]),
+    ("mann e", ["Eva Neumann"]),
+    ("brien", ["Pat O'Brien"]),
+    ("", NAMES),
+    ("-", ["-x"]),
+    ("x-", ["-x"]),
+    ("quux", []),
+])
+def test_names_that_begin_so_come_first(typed, found):
+    assert found_by(typed, NAMES, str) == found
+
+
+SPACES = [chr(it) for it in range(0x110000) if chr(it).isspace()]
+
+
+@pytest.mark.parametrize("one, other, is_alike", [
+    *((f"Ann{space}Two", "Ann Two", True) for space in SPACES),
+    ("Ann  Two", "Ann Two", True),
+    (" Ann Two\u00a0", "Ann Two", True),
+    ("Ann\u200bTwo", "AnnTwo", True),
+    ("O'Brien", "O’Brien", True),
+    ("O´Brien", "O’Brien", True),
+    ("Anna-Lena", "Anna\u2011Lena", True),
+    ("Anna\u2013Lena", "Anna-Lena", True),
+    ("Anna-Lena", "Anna Lena", False),
+    ("OBrien", "O'Brien", False),
+    ("Łukasz", "Lukasz", False),
+    ("Ann Two", "AnnTwo", False),
+])
+def test_names_that_look_alike_whatever_stands_between_letters(one, other, is_alike):
+    assert (compared(one) == compared(other)) == is_alike
+
+
+def test_a_name_stands_where_people_look_for_it():
+    names = [
+        "Ada", "Ærø", "Ali", "Dina", "Đorđe", "Eva", "Lena", "Łukasz", "Mo", "Obama", "O'Brien", "Ödön",
+        "Olga", "Øystein", "Pia", "Zoé",
+    ]
+    assert sorted(reversed(names), key=sort_key) == names
+
+
 def test_names_are_sorted_as_the_plain_reading_sorts_them():
-    names = [*HOSTILE, "ana", "Ana", "Óscar", "Oscar", "Zoë", "bo"]
+    more = ["ana", "Oscar", "Lukas", "O’Brien", "Obrian", "Anna Lena", "Annalena"]
+    names = [*HOSTILE, *FIRST_NAMES, *more]
     assert sorted(names, key=sort_key) == sorted(names, key=lambda name: (folded(name), name))

@@ -3,6 +3,7 @@ import io
 import re
 import threading
 import time
+from urllib.parse import quote
 
 import pytest
 
@@ -24,6 +25,7 @@ from companions.reports import OTHER, STORED, Reports
 from from_model import FromModel
 from scripts.clients.random_evenings import COMPLETE, ENDED, ENROLLING, HOSTILE, OPEN, STARTED, evening
 from scripts.models import plain_page
+from scripts.models.plain_event import Event as Played
 
 AT, HOST = "http://192.168.1.10:8080", "192.168.1.10:8080"
 LIFETIMES = {"meta", "link", "input", "br"}
@@ -206,6 +208,28 @@ def test_somebody_is_found_by_a_part_of_the_name(tmp_path, dice):
         assert page.root.of("form")
     page = check_page(room.ask("GET", "/?q=%22%3E%3Cb%3Ex"))
     assert page.root.of("b") == [] and page.root.of("input")[-1].attributes["value"] == '">' + "<b>x"
+
+
+def test_somebody_is_found_by_what_a_phone_can_type(tmp_path):
+    event = Played(3, 0)
+    for name in ("Zoë Kim", "Paul Hoffmann", "Anna Smith", "Łukasz O’Brien", "Øystein Æsa", "Lea Ann"):
+        event.enrol(name)
+    event.start()
+    event.pair(1, bytes(32))
+    room = Room(tmp_path, event)
+
+    def found(typed):
+        page = check_page(room.ask("GET", f"/?q={quote(typed)}"))
+        return [row.of("bdi")[0].text() for row in page.root.of("tr")]
+
+    for typed in ("lukasz", "obrien", "O'Brien", "brien, luk"):
+        assert found(typed) == ["Łukasz O’Brien"]
+    assert found("smith  anna") == ["Anna Smith"]
+    assert found("ann") == ["Anna Smith", "Lea Ann", "Paul Hoffmann"]
+    page = room.ask("GET", "/pairings").page()
+    assert [row.of("bdi")[0].text() for row in page.root.of("tr")[1:]] == [
+        "Anna Smith", "Lea Ann", "Łukasz O’Brien", "Øystein Æsa", "Paul Hoffmann", "Zoë Kim"
+    ]
 
 
 def test_each_phone_is_answered_in_its_language(room):

@@ -2,7 +2,7 @@ import csv
 
 import pytest
 from companions.program import Declined
-from companions.rosters import path_and_codec, read_list, roster_of, written_list
+from companions.rosters import path_and_codec, read_list, roster_of, tidy, written_list
 from scripts.clients.random_evenings import HOSTILE
 
 # as GUIDE shows them
@@ -14,8 +14,39 @@ def test_the_list_of_the_guide():
     assert roster.how == "UTF-8, semicolons, the columns First name and Last name"
     assert roster.names == ["Gus Lima", "Hal Sato"]
     assert roster.left_out == [
-        "row 4: Gus Lima, as in row 2. If these are two, tell them apart,\n         as: Gus Lima (Owls)"
+        "row 4: Gus Lima, as in row 2. If these are two, tell them apart,\n         as: Gus Lima (2)"
     ]
+
+
+@pytest.mark.parametrize("rows, told", [
+    # the row's own club, and never that of the row before
+    (["Jo,Owls", "Jo,Falken"], ["Jo (Falken)"]),
+    (["Jo,", "Jo,Falken", "Jo,Falken", "Jo,Owls"], ["Jo (Falken)", "Jo (2)", "Jo (Owls)"]),
+    (["Jo,Owls", "Jo, owls", "Jo,"], ["Jo (2)", "Jo (3)"]),
+    # a name that somebody has already tells nobody apart
+    (["Jo,Owls", "Jo (Falken),", "Jo,Falken"], ["Jo (2)"]),
+    (["Jo,Owls", "Jo," + "x" * 60], ["Jo (2)"]),
+    (["Jo,Owls", "Jo"], ["Jo (2)"]),
+])
+def test_two_of_one_name_are_told_apart_by_their_own_club(rows, told):
+    roster = roster_of("\n".join(["Name,Club", *rows, ""]).encode(), set())
+    assert [line.split("as: ")[1] for line in roster.left_out] == told
+
+
+def test_enrolled_names_tell_nobody_apart():
+    roster = roster_of(b"Name,Team\nJo,Owls\nJo,Falken\n", {"Jo (Falken)", "Jo (2)"})
+    assert roster.left_out[0].endswith("as: Jo (3)")
+
+
+@pytest.mark.parametrize("text, tidied", [
+    (" \u00a0Ann\u00a0 Two\u3000", "Ann Two"),
+    ("Ann\u2003\u2009\u202f\u205f\u1680\u2028Two", "Ann Two"),
+    # joiners make other letters of those beside them
+    ("\u0645\u06cc\u200c\u062e\u0648\u0627\u0647", "\u0645\u06cc\u200c\u062e\u0648\u0627\u0647"),
+    ("\u0d95\u0dca\u200d\u0dbb\u0dd3", "\u0d95\u0dca\u200d\u0dbb\u0dd3"),
+])
+def test_spaces_of_any_kind_are_one_space(text, tidied):
+    assert tidy(text) == tidied
 
 
 @pytest.mark.parametrize("data, names", [

@@ -11,6 +11,8 @@ from scripts.models.random_play import random_playoff_score, random_score
 # how far on an event is
 ENROLLING, STARTED, OPEN, COMPLETE, IN_PLAYOFF, ENDED = WAYS = "enrolling", "started", "open", "complete", "in the playoff", "ended"
 
+FIRST_NAMES = "Ana", "bo", "Cy", "Zoë", "Óscar", "Émile", "Łukasz", "Øystein", "Æsa", "Đorđe", "O'Brien", "Anna-Lena"
+
 HOSTILE = [
     "<script>alert(1)</script>",
     "W" * 60,
@@ -39,7 +41,7 @@ HOSTILE = [
 
 
 def names_for(dice, count, has_hostile):
-    names = [f"{dice.choice(('Ana', 'bo', 'Cy', 'Zoë', 'Óscar', 'Émile'))} {dice.choice('ABCDEFGH')}{it}" for it in range(1, count + 1)]
+    names = [f"{dice.choice(FIRST_NAMES)} {dice.choice('ABCDEFGH')}{it}" for it in range(1, count + 1)]
     if has_hostile:
         names[: min(count, len(HOSTILE))] = HOSTILE[:count]
         dice.shuffle(names)

@@ -2,6 +2,7 @@
 plain reading of the rules has it. It uses nothing of the program, nor of the sheets.
 """
 import html.parser
+import re
 import unicodedata
 
 VOID = {"meta", "col"}
@@ -122,8 +123,45 @@ def table_rows(event, number):
         yield (str(place) if b else "bye", str(a), event.names[a - 1], *other, "-".join(map(str, score)) if score else "")
 
 
+# what Unicode calls letters that are no letter with a mark, and how they are typed
+CALLED = {
+    "AE": "ae",
+    "OE": "oe",
+    "SHARP S": "ss",
+    "THORN": "th",
+    "ETH": "d",
+    "AFRICAN D": "d",
+    "ENG": "ng",
+    "KRA": "k",
+    "DOTLESS I": "i",
+    "SCHWA": "e",
+    "TURNED E": "e",
+    "REVERSED E": "e",
+    "OPEN E": "e",
+    "OPEN O": "o",
+    "GAMMA": "g",
+    "U BAR": "u",
+}
+UNTYPED = re.compile("APOSTROPHE|SINGLE (HIGH-REVERSED-9 )?(LEFT |RIGHT )?QUOTATION MARK|PRIME|(GRAVE|ACUTE) ACCENT|TURNED COMMA|REVERSED COMMA|HALF RING|MIDDLE DOT")
+
+
+def folded_letter(letter):
+    """By what Unicode calls it: LATIN CAPITAL LETTER L WITH STROKE is an l, an apostrophe is nothing."""
+    called, category = unicodedata.name(letter, ""), unicodedata.category(letter)
+    found = re.fullmatch("LATIN (?:SMALL|CAPITAL) (?:LETTER|LIGATURE) (.+?)(?: WITH .+)?", called)
+    if found and (len(found[1]) == 1 or found[1] in CALLED):
+        return CALLED.get(found[1], found[1].lower())
+    is_sign = category not in ("Ll", "Lu") and UNTYPED.search(called)
+    if is_sign or called == "MINUS SIGN" or category in ("Pd", "Cf"):
+        return ""
+    return letter
+
+
 def folded(name):
-    return "".join(it for it in unicodedata.normalize("NFKD", name) if not unicodedata.combining(it)).casefold()
+    """Letter by letter, and with one space between words."""
+    without = "".join(map(folded_letter, name))
+    apart = "".join(map(folded_letter, unicodedata.normalize("NFKD", without)))
+    return " ".join("".join(it for it in apart if not unicodedata.combining(it)).casefold().split())
 
 
 def name_rows(event, number):

@@ -10,7 +10,6 @@ from typing import Dict, List, Optional, Tuple
 from companions.clock import Clock, kept_clock
 from companions.event import Event
 from companions.lists import Match, Matches, Player, Players, Rounds, Standing
-from companions.names import plain
 from companions.phones.codes import path_of
 from companions.program import OverFile, Stamp
 from companions.sheets.main import title_of
@@ -55,8 +54,8 @@ class Picture:
     event: ReadEvent
     title: str
     version: int
-    # as they are looked for, in their order
-    names: List[Tuple[str, Player]]
+    # by name
+    by_name: List[Player]
     # the match of each player who sits in the newest round
     seats: Dict[int, Match]
     # of the file that was read: after `back` there is another one
@@ -153,9 +152,8 @@ class Looking:
     def keep(self, event: Event, inode: Optional[int] = None) -> None:
         """An event that was read, with what is made of it once."""
         read = ReadEvent(event, {})
-        names = [(plain(player.name), player) for player in by_name(read)]
         title, seats = title_of(self.file, self.title), seats_of(read.newest())
-        self.base = Picture(read, title, 0, names, seats, inode)
+        self.base = Picture(read, title, 0, by_name(read), seats, inode)
         self.show()
 
     def stamp_now(self) -> Tuple[Stamp, Tuple[float, ...]]:

@@ -11,7 +11,7 @@ from typing import Callable, Dict, Iterator, Optional, Set, Tuple
 
 from companions.clock import Clock
 from companions.lists import Match, Player
-from companions.names import plain
+from companions.names import found_by
 from companions.phones.asked import Asked, Fields, Pages, Settled, games_in
 from companions.phones.codes import FIRST_SEAT, SECOND_SEAT, TABLE, Secret
 from companions.phones.keeper import Answer, Games, Keeper, NotNow
@@ -126,8 +126,7 @@ class Site(Pages):
     def start(self, asked: Asked, is_wrong: bool = False) -> Reply:
         picture = self.looking.now
         wanted = asked.query.get("q", "").strip()[:60]
-        part = plain(wanted)
-        found = [player for name, player in picture.names if part in name] if wanted else []
+        found = found_by(wanted, picture.by_name, lambda player: player.name) if wanted else []
         rows = [row_of(picture, player) for player in found[:MOST_FOUND]]
         return self.page(
             "start.html",
@@ -149,7 +148,7 @@ class Site(Pages):
         return Reply(200, body, policy=POLICY_OF_BOARD) if path == "/board" else Reply(200, body)
 
     def pairings(self, picture: Picture, language: str) -> bytes:
-        rows = [row_of(picture, player) for _, player in picture.names if player.number in picture.seats]
+        rows = [row_of(picture, player) for player in picture.by_name if player.number in picture.seats]
         return self.page("pairings.html", language, rows=rows).body
 
     def standings(self, picture: Picture, language: str) -> bytes:

@@ -6,7 +6,7 @@ from dataclasses import dataclass
 from typing import Callable, Iterable, List
 
 from companions.lists import Player
-from companions.names import plain, visible
+from companions.names import found_by, plain, visible
 
 # these words are followed by a player
 OF_PLAYERS = ("drop", "who")
@@ -38,12 +38,11 @@ def offers_of_files(part: str) -> List[Offer]:
 
 
 def offers_of_players(part: str, players: Iterable[Player]) -> List[Offer]:
-    """Players by any part of the name, those whose name begins so first. A name that a terminal can't show is
-    left out.
+    """Players by what is typed of the name, those whose name begins so first. A name that a terminal can't
+    show is left out.
     """
-    found = [
+    return [
         Offer(part, player.name, f"{player.name} ({player.number})")
-        for player in players
-        if plain(part) in plain(player.name) and visible(player.name) == player.name
+        for player in found_by(part, players, lambda player: player.name)
+        if visible(player.name) == player.name
     ]
-    return sorted(found, key=lambda offer: not offer.begins_so)
