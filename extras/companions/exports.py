@@ -3,6 +3,7 @@ from __future__ import annotations
 
 import csv
 import io
+import itertools
 from dataclasses import dataclass
 from typing import Iterable, Sequence
 
@@ -64,20 +65,22 @@ def loser_of(match: Match) -> int:
 
 def final_ranking(event: Event) -> list[Ranked]:
     """The champion, then the players who lost in the final, in the stage before it, and so on, and then all
-    others. Players of one stage share a rank; among them, and among those who were not in the playoff, the
-    standings decide.
+    others. Players of one stage share a rank, and so do others who share one in the standings; among those
+    who share a rank the standings decide who is named first.
     """
     champion = event.bracket.champion
     if champion is None:
         return []
-    groups = [[champion], *([loser_of(match) for match in matches] for matches in reversed(event.stages))]
     in_order = [standing.player.number for standing in event.standings]
+    out = [[champion], *([loser_of(match) for match in matches] for matches in reversed(event.stages))]
+    placed = {number for group in out for number in group}
+    others = (standing for standing in event.standings if standing.player.number not in placed)
+    groups = [sorted(group, key=in_order.index) for group in out] + [
+        [standing.player.number for standing in tied]
+        for _, tied in itertools.groupby(others, key=lambda standing: standing.rank)
+    ]
     ranked: list[Ranked] = []
     for group in groups:
         rank = len(ranked) + 1
-        ranked += [Ranked(rank, event.players[number]) for number in sorted(group, key=in_order.index)]
-    placed = {placing.player.number for placing in ranked}
-    others = [number for number in in_order if number not in placed]
-    return ranked + [
-        Ranked(rank, event.players[number]) for rank, number in enumerate(others, len(ranked) + 1)
-    ]
+        ranked += [Ranked(rank, event.players[number]) for number in group]
+    return ranked

@@ -7,6 +7,7 @@ from companions.event import Event
 from companions.exports import final_ranking, playoff_csv, standings_csv
 from from_model import FromModel
 from scripts.clients.random_evenings import ENDED, IN_PLAYOFF, evening
+from scripts.models.plain_event import Event as Played
 from scripts.models.plain_event import winner
 from scripts.models.plain_page import standings_due
 
@@ -37,11 +38,19 @@ def test_playoff(dice):
     ]
 
 
+def others_ranked(event, cut):
+    """The ranks of those who were not in the playoff: behind the cut, and behind each of them who is better."""
+    merits = event.merits()
+    others = [merits[it] for it in merits if it not in {one for match in event.stages[0] for one in match[:2]}]
+    return [cut + 1 + sum(other > merit for other in others) for merit in others]
+
+
 @pytest.mark.parametrize("cut, ranks", [(2, [1, 2]), (4, [1, 2, 3, 3]), (8, [1, 2, 3, 3, 5, 5, 5, 5])])
 def test_final_ranking(dice, cut, ranks):
     event = evening(dice, 13, ENDED, 3, cut)
     found = final_ranking(Event(FromModel(event)))
-    assert [it.rank for it in found] == ranks + list(range(cut + 1, len(event.names) + 1))
+    assert [it.rank for it in found][:cut] == ranks
+    assert [it.rank for it in found][cut:] == others_ranked(event, cut)
     numbers = [it.player.number for it in found]
     assert sorted(numbers) == list(event.numbers())
     assert numbers[0] == winner(event.stages[-1][0])
@@ -53,6 +62,23 @@ def test_final_ranking(dice, cut, ranks):
         assert numbers[at : at + len(out)] == sorted(out, key=order.index)
         at += len(out)
     assert numbers[at:] == [it for it in order if it not in numbers[:at]]
+
+
+def test_whom_the_standings_do_not_part_shares_a_rank():
+    """After one round those who won by the same score are equal, and so are those who lost by it."""
+    event = Played(1, 2)
+    for number in range(1, 13):
+        event.enrol(f"P{number}")
+    event.start()
+    event.pair(1, bytes(32))
+    for table, score in enumerate([(2, 0, 0), (2, 0, 0), (2, 0, 0), (2, 1, 0), (2, 1, 0), (1, 1, 1)], 1):
+        event.report(1, table, score, True)
+    event.end_rounds()
+    event.play(1, 1, (2, 0, 0))
+    found = final_ranking(Event(FromModel(event)))
+    # one of the three with 2-0 is left out; then two with 2-1, two drawn, two lost 1-2, three lost 0-2
+    assert [it.rank for it in found] == [1, 2, 3, 4, 4, 6, 6, 8, 8, 10, 10, 10]
+    assert [it.rank for it in found][2:] == others_ranked(event, 2)
 
 
 def test_no_ranking_without_a_champion(dice):
