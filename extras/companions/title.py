@@ -1,7 +1,35 @@
-"""FILE.title: the event's name, which no text of the program has."""
+"""What an event is called: no text of the program has its name. FILE.title has it, and so has the file."""
 from __future__ import annotations
 
 import os
+
+from companions.plan import plan_of
+from companions.turn import Turn
+
+
+def title_of(file: str, turn: Turn) -> str:
+    """What sheets, board, phones and prompt are headed with: the event's name, or else the file's. Where there
+    is no FILE.title, as beside a copy, FILE is copied for it: so it is asked once for each reading.
+    """
+    return event_name(file, turn) or file_name(file)
+
+
+def event_name(file: str, turn: Turn) -> str:
+    """The name in FILE.title, or else in FILE, or nothing."""
+    kept = kept_title(file)
+    plan = None if kept else plan_of(file, turn)
+    return plan.name if plan else kept
+
+
+def file_name(file: str) -> str:
+    """The name of the file, which may have letters that no page has."""
+    name = shown_text(os.path.basename(file))
+    return name[: -len(".event")] if name.endswith(".event") and name != ".event" else name
+
+
+def shown_text(text: str) -> str:
+    """A word of the command line, without what no page can have."""
+    return text.encode("utf-8", "replace").decode("utf-8")
 
 
 def kept_title(file: str) -> str:

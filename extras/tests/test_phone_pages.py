@@ -21,6 +21,7 @@ from companions.phones.looking import Looking
 from companions.phones.pages import style
 from companions.phones.site import Site, drops_in, outcome_of
 from companions.phones.texts import ENGLISH, GERMAN
+from companions.plan import Plan
 from companions.reports import OTHER, STORED, Reports
 from from_model import FromModel
 from scripts.clients.random_evenings import COMPLETE, ENDED, ENROLLING, HOSTILE, OPEN, STARTED, evening
@@ -59,7 +60,7 @@ class Room:
     def __init__(self, folder, event, asks_both=False):
         self.file, self.event = f"{folder}/e.event", event
         self.looking = Looking("none", self.file, "Friday")
-        self.looking.keep(Event(FromModel(event), self.file))
+        self.looking.keep(*self.looking.read_all(Event(FromModel(event), self.file)))
         self.reports, self.keeper = Reports(self.file), Told()
         self.secret = Secret(AT, bytes(32), asks_both)
         self.site = Site(self.looking, self.reports, self.secret, hosts_of(AT, 8080), self.keeper)
@@ -246,6 +247,16 @@ def test_the_clock_stands_on_each_page(room):
     for target in ("/", "/pairings", "/standings", room.target(1)):
         assert "Time is over" in room.ask("GET", target).page().root.one("span", "clock")
     assert "Time is over" in room.ask("GET", "/board").page().root.one("p", "clock")
+
+
+def test_the_event_s_name_is_asked_once_for_each_picture(room, monkeypatch):
+    asked = []
+    monkeypatch.setattr("companions.title.plan_of", lambda *_: asked.append(1) or Plan("Friday <Night>", 3, 0))
+    room.looking.title = None
+    room.looking.keep(*room.looking.read_all(Event(FromModel(room.event), room.file)))
+    for target in ("/", "/pairings", "/standings", "/board", room.target(1)):
+        assert "Friday &lt;Night&gt;" in room.ask("GET", target).text
+    assert asked == [1]
 
 
 def test_lists_are_made_once_for_each_picture(room, monkeypatch):

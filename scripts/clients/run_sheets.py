@@ -150,9 +150,9 @@ def run_titles(room):
     """What the sheets are headed with."""
     event = Event(3, 0)
     event.enrol("Ana")
-    file = laid(program, f"{room}/friday.event", event, "E")
+    file = laid(program, f"{room}/friday.event", event, "E & <Friday>")
     headed = lambda *words: heading(page_of("titles", file, *words).parts()["players"])
-    check("titled by the file", headed(), ("friday", "Players: 1"))
+    check("titled by the name in the file", headed(), ("E & <Friday>", "Players: 1"))
     with open(f"{file}.title", "w", encoding="utf-8") as it:
         it.write("Friday <Night> & more\n")
     check("titled by the text beside it", headed(), ("Friday <Night> & more", "Players: 1"))

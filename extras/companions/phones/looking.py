@@ -12,9 +12,9 @@ from companions.event import Event
 from companions.lists import Match, Matches, Player, Players, Rounds, Standing
 from companions.phones.codes import path_of
 from companions.program import OverFile, Stamp
-from companions.sheets.main import title_of
 from companions.sheets.parts import by_name
 from companions.sheets.reading import Unread, read_whole
+from companions.title import shown_text, title_of
 from companions.turn import Turn
 
 SECONDS_BETWEEN_LOOKS = 0.5
@@ -88,14 +88,6 @@ def seats_of(matches: Matches) -> Dict[int, Match]:
     return seats
 
 
-def read_all(event: Event) -> Event:
-    """Asks for all that is shown, so that nothing is asked later."""
-    event.read()
-    event.standings
-    event.shown_rounds
-    return event
-
-
 @dataclass(frozen=True)
 class Answered:
     """A score that the program took, and when: a reading that began later has it."""
@@ -139,21 +131,27 @@ class Looking:
         with self.reading:
             stamp, begun = self.stamp_now(), time.monotonic()
             try:
-                event = read_whole(self.source, self.file, read_all)
+                event, title = read_whole(self.source, self.file, self.read_all)
             except Unread as fault:
                 self.fault = str(fault)
                 return False
             with self.lock:
                 self.fault, self.stamp = "", stamp
                 self.answered = [answer for answer in self.answered if answer.at >= begun]
-                self.keep(event, stamp[0][0] if stamp[0] else None)
+                self.keep(event, title, stamp[0][0] if stamp[0] else None)
             return True
 
-    def keep(self, event: Event, inode: Optional[int] = None) -> None:
+    def read_all(self, event: Event) -> Tuple[Event, str]:
+        """All that is shown, so that nothing is asked later, for a request least of all."""
+        event.read()
+        event.standings
+        event.shown_rounds
+        return event, shown_text(self.title) if self.title else title_of(self.file, self.source.turn)
+
+    def keep(self, event: Event, title: str, inode: Optional[int] = None) -> None:
         """An event that was read, with what is made of it once."""
         read = ReadEvent(event, {})
-        title, seats = title_of(self.file, self.title), seats_of(read.newest())
-        self.base = Picture(read, title, 0, by_name(read), seats, inode)
+        self.base = Picture(read, title, 0, by_name(read), seats_of(read.newest()), inode)
         self.show()
 
     def stamp_now(self) -> Tuple[Stamp, Tuple[float, ...]]:

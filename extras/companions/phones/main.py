@@ -77,7 +77,7 @@ def parser() -> argparse.ArgumentParser:
     )
     clock = "start a clock of so many minutes, and end"
     add("--clock", type=minutes_word, metavar="MINUTES", help=clock)
-    title = "the heading; without it FILE.title, which the prompt writes, or else the file's name"
+    title = "the heading; without it FILE.title, which the prompt writes, or else the name in FILE"
     add("--title", metavar="TEXT", help=title)
     add_program(words)
     return words

@@ -16,7 +16,7 @@ from companions.phones.codes import kept_secret
 from companions.program import Declined, OverFile, OverPort, Source, ready
 from companions.sheets.parts import DEFAULT_PARTS, PARTS, SECONDS_TO_RELOAD
 from companions.sheets.reading import NoRound, Unread, read_whole
-from companions.title import kept_title
+from companions.title import shown_text, title_of
 from companions.turn import Turn
 
 COMMAND = "event-sheets"
@@ -53,19 +53,6 @@ NO_JINJA = f"""\
 On Debian: sudo apt-get install python3-jinja2"""
 
 
-def title_of(file: str, given: Optional[str]) -> str:
-    """What the sheets are headed with. No text of the program has an event's name, so it comes from the
-    words, or from the text beside the file.
-    """
-    if given:
-        return given.encode("utf-8", "replace").decode("utf-8")
-    # a name of a file may have letters that no page has
-    name = os.path.basename(file).encode("utf-8", "replace").decode("utf-8")
-    return kept_title(file) or (
-        name[: -len(".event")] if name.endswith(".event") and name != ".event" else name
-    )
-
-
 def page_maker(words: argparse.Namespace) -> Callable[[Event], str]:
     """What makes the page of an event as it is. Jinja2 is loaded here, so that all else goes without."""
     from companions.sheets.page import Board, open_tables_of, page_of, parts_of_board, turn_now
@@ -88,7 +75,8 @@ def page_maker(words: argparse.Namespace) -> Callable[[Event], str]:
             raise NoRound(there if newest else "No round is paired yet.")
         kinds = words.parts or (parts_of_board(event) if words.board else DEFAULT_PARTS)
         slips = SlipsFor(words.tables, kept_secret(words.file))
-        return page_of(event, title_of(words.file, words.title), number, kinds, board(event), slips)
+        title = shown_text(words.title) if words.title else title_of(words.file, event.source.turn)
+        return page_of(event, title, number, kinds, board(event), slips)
 
     return make
 
@@ -189,7 +177,7 @@ def parser() -> argparse.ArgumentParser:
     )
     add("--parts", type=parts_word, metavar="LIST", help="these parts alone, with commas between them")
     add("--tables", type=tables_word, metavar="LIST", help="slips of these tables alone, as 4 or 4,17")
-    title = "the heading; without it FILE.title, which the prompt writes, or else the file's name"
+    title = "the heading; without it FILE.title, which the prompt writes, or else the name in FILE"
     add("--title", metavar="TEXT", help=title)
     add(
         "--port", type=port_word, metavar="N", help="read over HTTP, from `event_reporter serve FILE N COUNT`"
