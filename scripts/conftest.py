@@ -14,7 +14,9 @@ import pytest
 
 from scripts import TOP, commit_time
 from scripts.clients.program import Program
+from scripts.clients.random_evenings import laid
 from scripts.clients.serving import Serving
+from scripts.models.plain_event import Event
 
 # helpers in which an `assert` is a check too
 pytest.register_assert_rewrite("scripts.clients.prompt")
@@ -139,6 +141,20 @@ def prompt(program, extras):
 
     with Prompt(program.path, f"{extras}/desk.py") as it:
         yield it
+
+
+@pytest.fixture
+def started(program, room):
+    """An event that has begun, and its file."""
+
+    def start(*names, rounds=3, cut=0):
+        event = Event(rounds, cut)
+        for name in names:
+            event.enrol(name)
+        event.start()
+        return event, laid(program.path, f"{room}/e.event", event, "E")
+
+    return start
 
 
 @pytest.fixture

@@ -1,15 +1,19 @@
-"""Whether a round is the one that its key gives: the program pairs a copy, and the tables are compared."""
+"""Whether a round is the one that its key gives: the program pairs a copy, and the tables are compared. And
+what the copies say of earlier rounds.
+"""
 from __future__ import annotations
 
 import contextlib
 import os
 import shutil
 import tempfile
-from typing import Iterator
+from dataclasses import dataclass
+from typing import Iterator, Optional
 
-from companions.copies import Copy
-from companions.lists import Matches, pairings_of
-from companions.program import Declined, OverFile, Source
+from companions.copies import Copies, Copy
+from companions.keys import Keys
+from companions.lists import Matches, Rounds, pairings_of
+from companions.program import FAULTS, Declined, OverFile, Source
 
 
 @contextlib.contextmanager
@@ -30,6 +34,62 @@ def paired_copy(source: Source, copy: Copy, number: int, key: str) -> Matches:
     with opened(source, copy) as program:
         program.ask("pair", str(number), key)
         return program.understood(pairings_of, program.read("slips", str(number)))
+
+
+@dataclass(frozen=True)
+class Found:
+    """How near a copy and a key come to a round: the tables that differ. None do, if they give it."""
+
+    key: str
+    differing: list[int]
+
+
+def nearest(
+    source: Source, copies: list[Copy], keys: list[str], number: int, stored: Matches
+) -> Optional[Found]:
+    """The newest copy and key that give the round, each with each, since after `back` a round may be of an
+    earlier one; or else the newest that can be paired.
+    """
+    found = None
+    for copy in reversed(copies):
+        for key in reversed(keys):
+            try:
+                differing = differing_tables(stored, paired_copy(source, copy, number, key))
+            except FAULTS:
+                # a copy that can't be opened, or that is of another course of the event
+                continue
+            if not differing:
+                return Found(key, [])
+            found = found or Found(key, differing)
+    return found
+
+
+def copies_before(copies: Copies, number: int) -> list[Copy]:
+    return [copy for copy in copies.all() if copy.what == f"before-pair-{number}"]
+
+
+def keys_of(keys: Keys, number: int) -> list[str]:
+    return [key for of, key in keys.all() if of == number]
+
+
+def seats_of(rounds: Rounds) -> list[list[tuple[int, int, int]]]:
+    return [[(match.place, match.first, match.second) for match in matches] for matches in rounds]
+
+
+def standings_after(
+    source: Source, copies: Copies, number: int, rounds: Rounds
+) -> Optional[tuple[Copy, str]]:
+    """The standings as they were when the next round was paired: those of the newest copy from before it that
+    has the same rounds.
+    """
+    for copy in reversed(copies_before(copies, number + 1)):
+        try:
+            with opened(source, copy) as program:
+                if seats_of(program.rounds()) == seats_of(rounds[:number]):
+                    return copy, program.text("standings")
+        except FAULTS:
+            continue
+    return None
 
 
 def differing_tables(stored: Matches, due: Matches) -> list[int]:

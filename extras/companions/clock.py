@@ -44,6 +44,10 @@ def keep_clock(file: str, clock: Clock) -> None:
     os.replace(beside, f"{file}.clock")
 
 
+def start_clock(file: str, minutes: int) -> None:
+    keep_clock(file, Clock(int(time.time()) + 60 * minutes, minutes))
+
+
 def stop_clock(file: str) -> None:
     with contextlib.suppress(FileNotFoundError):
         os.unlink(f"{file}.clock")

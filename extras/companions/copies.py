@@ -10,9 +10,11 @@ from dataclasses import dataclass
 from typing import Optional
 
 from companions.files import copy_synced, has_log, move, remove_with_log, time_stamp
+from companions.holding import held_by_nobody
 from companions.lists import Players
 from companions.names import visible
 from companions.program import MOST_TRIES, SECONDS_BETWEEN_TRIES, Declined
+from companions.stages import slot_shown
 from companions.turn import Turn
 
 
@@ -25,26 +27,24 @@ class Copy:
     what: str
     path: str
 
-    def shown(self, players: Players) -> str:
-        words = self.what.split("-")
-        if words[:2] == ["before", "drop"] and int(words[2]) in players:
-            words.append(visible(players[int(words[2])].name))
-        told = {"copy": "copy, made by hand", "away": "put away by back or rename"}.get(
-            self.what, " ".join(words)
-        )
+    def shown(self, players: Players, first_stage: int = 0) -> str:
         day, hour = self.when.split("-")
+        came = self.came_after(players, first_stage)
+        by_hand = {"copy": "copy, made by hand", "away": "put away by back or rename"}
+        told = by_hand.get(self.what, f"before {came}")
         return f"{self.number:4}  {day[:4]}-{day[4:6]}-{day[6:]} {hour[:2]}:{hour[2:4]}:{hour[4:]}  {told}"
 
-
-    def made_before(self, players: Players) -> str:
-        """What came after it, in a sentence: the drop of Ana Lima (12)."""
+    def came_after(self, players: Players, first_stage: int = 0) -> str:
+        """What came after it, as: the drop of Ana Lima (12)."""
         kind, *numbers = self.what.split("-")[1:] or [self.what]
-        if kind == "drop" and int(numbers[0]) in players:
-            return f"the drop of {visible(players[int(numbers[0])].name)} ({numbers[0]})"
+        if kind == "drop":
+            name = f"{visible(players[int(numbers[0])].name)} " if int(numbers[0]) in players else ""
+            return f"the drop of {name}({numbers[0]})"
         if kind == "pair":
             return f"the pairing of round {numbers[0]}"
         if kind == "play":
-            return f"the score of stage {numbers[0]}, slot {numbers[1]}"
+            slot = slot_shown(int(numbers[0]), int(numbers[1]), first_stage)
+            return f"the score of {'the ' if slot == 'final' else ''}{slot}"
         return {"cut": "the cut", "migrate": "the migration"}.get(kind, " ".join([kind, *numbers]))
 
 
@@ -109,18 +109,18 @@ class Copies:
 
     def put_in_place(self, copy: Copy) -> Optional[str]:
         """Puts the event in use away, and the copy into its place. Where the event lies then, if there was
-        one.
+        one. It is declined while another program has the file.
 
         The file goes before its log, so that it never lies there without; the copy's log comes before the
         copy.
         """
         beside, away = f"{self.file}.back", f"{self.file}.away-{self.next_name()}"
-        # what an earlier run left here, that was stopped, belongs to another copy
-        remove_with_log(beside)
-        if has_log(copy.path):
-            copy_synced(f"{copy.path}-wal", f"{beside}-wal")
-        copy_synced(copy.path, beside)
-        with self.turn.taken():
+        with self.turn.taken(), held_by_nobody(self.file):
+            # what an earlier run left here, that was stopped, belongs to another copy
+            remove_with_log(beside)
+            if has_log(copy.path):
+                copy_synced(f"{copy.path}-wal", f"{beside}-wal")
+            copy_synced(copy.path, beside)
             was_there = os.path.lexists(self.file)
             for log in ("", "-wal", "-shm"):
                 if os.path.lexists(self.file + log):

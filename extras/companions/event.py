@@ -2,9 +2,9 @@
 from __future__ import annotations
 
 import enum
-from dataclasses import replace
+from dataclasses import dataclass, replace
 from functools import cached_property
-from typing import Optional
+from typing import Optional, Tuple
 
 from companions.doubts import Doubts, with_doubts
 from companions.lists import Bracket, Match, Matches, Player, Players, Rounds, Standing, players_in
@@ -22,6 +22,18 @@ class Phase(enum.Enum):
 
 def shown_player(player: Player) -> str:
     return f"{visible(player.name)} ({player.number})"
+
+
+@dataclass(frozen=True)
+class Progress:
+    """How far an event is: the newest round, who sits at its tables, whether the playoff has begun, and in
+    which file it is, since `back` puts another one in place.
+    """
+
+    number: int = 0
+    seats: Tuple[Tuple[int, int, int], ...] = ()
+    is_cut: bool = False
+    inode: int = 0
 
 
 class Event:
@@ -90,9 +102,21 @@ class Event:
     def is_all_paired(self) -> bool:
         return self.source.is_all_paired()
 
+    @property
+    def progress(self) -> Progress:
+        stamp = self.source.stamp()
+        seats = tuple((match.place, match.first, match.second) for match in self.newest())
+        is_cut = not self.open_tables() and bool(self.stages)
+        return Progress(len(self.rounds), seats, is_cut, stamp[0] if stamp else 0)
+
     def read(self) -> tuple[Players, Rounds, Bracket]:
-        """All that the event shows, asked now."""
-        return self.players, self.rounds, self.bracket
+        """All that the file has, asked now: the enrolled names, as a copy has no others."""
+        return self.enrolled, self.rounds, self.bracket
+
+    @property
+    def first_stage(self) -> int:
+        """How many matches the first stage of the playoff has, or 0."""
+        return len(self.stages[0]) if self.stages else 0
 
     def newest(self) -> Matches:
         return self.rounds[-1] if self.rounds else []

@@ -8,8 +8,8 @@ from companions.turn import Turn
 
 
 def title_of(file: str, turn: Turn) -> str:
-    """What sheets, board, phones and prompt are headed with: the event's name, or else the file's. Where there
-    is no FILE.title, as beside a copy, FILE is copied for it: so it is asked once for each reading.
+    """What sheets, board and phones are headed with: the event's name, or else the file's. If there is no
+    FILE.title, as beside a copy, FILE is copied for it: so it is asked once for each reading.
     """
     return event_name(file, turn) or file_name(file)
 

@@ -1,8 +1,12 @@
 import pytest
 from companions.program import Declined, Refusal
-from companions.prompt.lines import Input, numbers_in, score_in
-from companions.prompt.session import ranges
-from companions.prompt.texts import ALL_COMMANDS, COMMANDS, REFUSALS
+from companions.event import Progress
+from companions.prompt.desk import only
+from companions.prompt.lines import Input, minutes_in, minutes_of, numbers_in, score_in, with_score
+from companions.prompt.players import have_a_word_in_common
+from companions.prompt.rounds import word_and_minutes
+from companions.prompt.session import prompt_at, ranges, why_not_used
+from companions.prompt.texts import ALL_COMMANDS, BEGINNING, COMMANDS, PLAYOFF, REFUSALS
 
 
 def test_numbers():
@@ -25,10 +29,85 @@ def test_what_is_no_result(line):
         numbers_in(line, 3, 4, "17 2 1")
 
 
+@pytest.mark.parametrize("line, score", [
+    ("7 20", "7 2 0"),
+    ("7 201", "7 2 0 1"),
+    ("17 id", "17 0 0 3"),
+    ("17 ID", "17 0 0 3"),
+    ("3 17 id", "3 17 0 0 3"),
+    ("7 2 0", "7 2 0"),
+    ("7 2-1", "7 2-1"),
+    ("7 45", "7 45"),
+    ("7 2", "7 2"),
+    ("20", "20"),
+    ("id", "id"),
+])
+def test_scores_without_spaces_and_intended_draws(line, score):
+    assert with_score(line) == score
+
+
+@pytest.mark.parametrize("text, minutes", [
+    ("50", 50), ("50min", 50), ("50 min", 50), ("50 Minutes", 50), ("5m", 5), ("x", None), ("", None), ("-3", None)
+])
+def test_minutes(text, minutes):
+    assert minutes_in(text) == minutes
+
+
+def test_minutes_of_a_clock():
+    assert minutes_of("600", "clock 50") == 600
+    for text in ("0", "601", "x"):
+        with pytest.raises(Declined):
+            minutes_of(text, "clock 50")
+
+
+@pytest.mark.parametrize("rest, found", [
+    ("", ("", None)),
+    ("50", ("", 50)),
+    ("50min", ("", 50)),
+    ("again", ("again", None)),
+    ("again 45", ("again", 45)),
+    ("12" * 32, ("12" * 32, None)),
+    (f"{'12' * 32} 50", ("12" * 32, 50)),
+    ("xyz", ("xyz", None)),
+])
+def test_what_follows_pair(rest, found):
+    assert word_and_minutes(rest) == found
+
+
+def test_the_prompt_says_which_round_it_is_in():
+    assert [prompt_at(it) for it in (Progress(), Progress(1), Progress(12), Progress(6, is_cut=True))] == [
+        "desk> ", "r1> ", "r12> ", "playoff> "
+    ]
+
+
+def test_a_word_that_takes_nothing():
+    only("cut", "")
+    with pytest.raises(Declined, match="cut takes nothing after it. To do it, type: cut"):
+        only("cut", "4")
+
+
+@pytest.mark.parametrize("one, other, have", [
+    ("Petr Mayer", "Peter Meyer", True),
+    ("Ana", "Anna", True),
+    ("Cy", "Cyril", True),
+    ("Łukasz Kowalski", "Lukasz Nowak", True),
+    ("Björn Åström", "Łukasz Kowalski", False),
+    ("Bo", "Anna", False),
+])
+def test_names_with_a_word_in_common(one, other, have):
+    assert have_a_word_in_common(one, other) == have
+
+
+def test_why_a_file_is_not_used(tmp_path):
+    assert why_not_used(f"{tmp_path}/e.event") == ""
+    assert why_not_used(f"{tmp_path}/none/e.event").startswith("There is no folder")
+    assert "is a folder" in why_not_used(f"{tmp_path}")
+
+
 def test_help_fits_a_terminal_of_24_lines():
     # the line that was typed stands above it, and the prompt beneath
-    assert COMMANDS.count("\n") <= 22
-    assert [line for line in ALL_COMMANDS.split("\n") if len(line) > 80] == []
+    assert max(text.count("\n") for text in (COMMANDS, BEGINNING, PLAYOFF)) <= 22
+    assert [line for line in (ALL_COMMANDS + BEGINNING + PLAYOFF).split("\n") if len(line) > 80] == []
 
 
 def test_a_count_of_drawn_games_that_is_not_there_is_0():

@@ -6,7 +6,7 @@ import os
 import pytest
 from companions import reports as module
 from companions.lists import Match, Player
-from companions.prompt.phones import lines_of
+from companions.prompt.news import lines_of
 from companions.reports import (
     OTHER,
     SETTLED,

@@ -64,7 +64,7 @@ def cut_of_four(scores):
 def test_the_cut_and_scores_of_the_playoff_come_as_lines_to_type():
     lines = came_since(cut_of_four([(1, 1, (2, 1, 0))]), cut_of_four(None), OfRounds({}))
     assert [line for line in lines if "cut" in line or "play " in line] == [
-        "The playoff was begun since. To begin it again: cut", "  play 1 1 2 1 0"
+        "The playoff was begun since. To begin it again: cut", "  play final 2 1"
     ]
     lines = came_since(cut_of_four([(1, 1, (2, 1, 0))]), cut_of_four([]), OfRounds({}))
-    assert [line for line in lines if line.startswith("  ")] == ["  play 1 1 2 1 0"]
+    assert [line for line in lines if line.startswith("  ")] == ["  play final 2 1"]

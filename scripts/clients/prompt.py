@@ -15,7 +15,8 @@ import time
 from scripts.clients.event_files import rows_alone, rows_of
 from scripts.models.plain_event import ENROLLING, FINISHED, PLAYOFF, SWISS, Event
 
-PROMPT, QUESTION = b"desk> ", b"(y or n) "
+# before the first round, in a round, and in the playoff
+PROMPTS, QUESTION = (b"desk> ", *(b"r%d> " % number for number in range(1, 13)), b"playoff> "), b"(y or n) "
 PATIENCE = 20
 # without any package beside: the standard library is all that they need
 PYTHON = sys.executable, "-S", "-B"
@@ -72,16 +73,34 @@ def ranges(numbers):
     return text[2:]
 
 
+STAGES = {8: ("quarterfinal", "semifinal", "final"), 4: ("semifinal", "final"), 2: ("final",)}
+
+
+def slot_named(event, stage, slot):
+    """A match of the playoff, by the name of its stage."""
+    name = STAGES[event.cut][stage - 1]
+    return name if name == "final" else f"{name} {slot}"
+
+
+def slot_typed(event, stage, slot):
+    return {"quarterfinal": f"qf{slot}", "semifinal": f"sf{slot}", "final": "final"}[STAGES[event.cut][stage - 1]]
+
+
+def begun(text):
+    """As the beginning of a line."""
+    return text[0].upper() + text[1:]
+
+
 def next_due(event):
     """Where the event is, and what comes next."""
     number = len(event.stored)
     if event.phase == ENROLLING:
         return f"{len(event.names)} player{'s' * (len(event.names) != 1)} so far. Next: enrol Ana Lima, import names.csv, or start"
     if event.phase == FINISHED:
-        return f"the champion is {player_shown(event, int(event.bracket()[-1].split()[1]))}"
+        return f"the champion is {player_shown(event, int(event.bracket()[-1].split()[1]))}. See: final"
     if event.phase == PLAYOFF:
-        places = [f"{stage} {slot}" for stage, matches in enumerate(event.stages, 1) for slot, match in enumerate(matches, 1) if not match[2]]
-        return f"open by stage and slot: {', '.join(places)}. Next: play {places[0]} 2 0"
+        places = [(stage, slot) for stage, matches in enumerate(event.stages, 1) for slot, match in enumerate(matches, 1) if not match[2]]
+        return f"open: {', '.join(slot_named(event, *it) for it in places)}. Next: play {slot_typed(event, *places[0])} 2 0"
     if not number:
         return "no round is paired yet. Next: pair"
     tables = [place for place, match in enumerate(event.stored[-1], 1) if not match[2]]
@@ -144,13 +163,14 @@ class Evening:
             f"{answer[0]}: {next_due(event)}",
         )
 
-    def fix(self, number, table, score):
-        event = self.event
-        match = event.stored[number - 1][table - 1]
+    def fix(self, table, score):
+        """Of the newest round."""
+        event, number = self.event, len(self.event.stored)
+        match = event.stored[-1][table - 1]
         before = "-".join(map(str, match[2]))
         answer = event.report(number, table, score, False)
-        line = f"fix {number} {table} {' '.join(map(str, score))}"
-        self.taken(line, [f"Round {number}, table {table}: {match_shown(event, match, score)}, in place of {before}"], answer[0])
+        line = f"fix {table} {' '.join(map(str, score[:2]))}"
+        self.expect(line, answer[0], f"Round {number}, table {table}: {match_shown(event, match, score)}, in place of {before}")
 
     def drop(self, word, number):
         self.expect(f"drop {word}", f"Drop {player_shown(self.event, number)}?")
@@ -177,7 +197,7 @@ class Evening:
             )
             for table in range(1, tables + 1):
                 self.result(table, ((2, 1, 0), (0, 0, 3), (1, 2, 1), (2, 0, 0), (0, 2, 0))[(table + number) % 5])
-            self.fix(number, 1, (0, 2, 0))
+            self.fix(1, (0, 2, 0))
             if number == 1:
                 answer = event.enrol("Late Lou")
                 self.taken("enrol Late Lou", answer, "Late Lou (10) is enrolled.", "Round 1 is lost, without an opponent.")
@@ -205,7 +225,8 @@ class Evening:
         slot = next(at for at, match in enumerate(event.stages[-1], 1) if not match[2])
         match = event.stages[-1][slot - 1]
         answer = event.play(stage, slot, (1, 2, 0))
-        self.taken(f"play {stage} {slot} 1 2", [f"Stage {stage}, slot {slot}: {match_shown(event, match, (1, 2, 0))}"], answer[0], next_due(event))
+        named = f"{begun(slot_named(event, stage, slot))}: {match_shown(event, match, (1, 2, 0))}"
+        self.expect(f"play {slot_typed(event, stage, slot)} 1 2", answer[0], named, begun(next_due(event)))
 
     def end(self, name):
         assert rows_alone(self.file) == rows_of(self.event, "Friday Night"), f"{name}, the file"
@@ -279,7 +300,7 @@ class Terminal:
                 said += os.read(self.master, 65536)
         return said.decode("utf-8", "replace")
 
-    def read(self, ends=(PROMPT, QUESTION)):
+    def read(self, ends=(*PROMPTS, QUESTION)):
         said = b""
         while not said.endswith(ends):
             if not select.select([self.master], [], [], PATIENCE)[0]:

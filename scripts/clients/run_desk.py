@@ -22,7 +22,7 @@ import time
 
 from scripts import TOP
 from scripts.clients.event_files import make_old, rows_alone, rows_of, run
-from scripts.clients.prompt import LETTERS, PATIENCE, PYTHON, Terminal, match_shown, player_shown, unfilled, where_due
+from scripts.clients.prompt import LETTERS, PATIENCE, PYTHON, Terminal, match_shown, player_shown, slot_named, unfilled, where_due
 from scripts.clients.random_evenings import ENDED, HOSTILE, IN_PLAYOFF, STARTED, evening, laid
 from scripts.clients.serving import Serving, free_port, hear_interrupts
 from scripts.clients.tally import check, dice_of, end
@@ -163,7 +163,7 @@ def refused_by(file, number, name, lines, *words, by=None, options=()):
     """The last line is refused so, and this is said of it. Nothing of it is in the file."""
     before = rows_alone(file) if os.path.exists(file) and by is None and number not in (25, 29) else None
     status, text = typed(file, *lines, words=options, by=by)
-    check_said(f"refusal {number}", text, f"refused {number} {name}\n", *words)
+    check_said(f"refusal {number}", text, *words, f"(refused {number} {name})\n")
     check(f"refusal {number}, the status", status, 1)
     if before is not None and len(lines) == 1:
         check(f"refusal {number}, the file", rows_alone(file), before)
@@ -172,6 +172,7 @@ def refused_by(file, number, name, lines, *words, by=None, options=()):
 def run_refusals_of_players(room):
     event, file = started(room, ["Ana", "Bo", "Cy"], 3, 8)
     other = f"{room}/other.event"
+    check_said("no event yet", said(other), f"{other} is new. Begin with", "init Other 6 8")
     refused_by(other, 27, "NoEvent", ["where"], "init Friday Night 3 0")
     check("refusal 27, no file is made", os.path.exists(other), False)
     refused_by(file, 28, "EventExists", ["init Friday 3 0"], "another FILE")
@@ -182,6 +183,7 @@ def run_refusals_of_players(room):
     refused_by(other, 5, "TooFewPlayers", ["init One 3 0", "enrol Ana", "start"], "enrol Ana Lima")
     refused_by(other, 6, "NotSwiss", ["1 2 0"], "The Swiss rounds have not begun", "start")
     refused_by(file, 17, "NoSuchPlayer", ["drop 99"], "See: players")
+    refused_by(other, 6, "NotSwiss", ["drop 1"], "Nobody drops before the start")
     event.drop(1)
     by_sql(file, "UPDATE player2 SET dropped = 1 WHERE no = 1")
     refused_by(file, 18, "AlreadyDropped", ["drop Ana"], "has dropped already")
@@ -203,7 +205,7 @@ def run_refusals_of_rounds(room):
     event, file = started(room, ["Ana", "Bo", "Cy"], 3, 8)
     refused_by(file, 19, "RoundsNotDone", ["cut"], "has no score")
     check("refusal 19, nothing is shown before it", "would begin" in said(file, "cut"), False)
-    refused_by(file, 22, "NotPlayoff", ["play 1 1 2 0"], "Next: cut, or bracket")
+    refused_by(file, 22, "NotPlayoff", ["play qf1 2 0"], "Next: cut, or bracket")
     said(file, "pair")
     refused_by(file, 8, "RoundOpen", ["pair"], "then: pair", "Round 1, 1 table open: 1")
     refused_by(file, 12, "NoSuchMatch", ["99 2 0"], "See: round, or bracket")
@@ -211,8 +213,8 @@ def run_refusals_of_rounds(room):
     refused_by(file, 15, "NotReported", ["fix 1 1 2 0"], "Enter it: 17 2 1")
     refused_by(file, 16, "IsBye", ["0 2 0"], "stays 2-0-0")
     check_said("a score", said(file, "1 0 2"), "ok ", "round 1 has all its scores. Next: pair")
-    refused_by(file, 14, "AlreadyReported", ["1 0 2"], "Stored is 0-2-0, the very same. All is well.")
-    refused_by(file, 14, "AlreadyReported", ["1 2 1"], "Stored is 0-2-0. If that is wrong: fix 1 1 2 1 0")
+    refused_by(file, 14, "AlreadyReported", ["1 0 2"], "Not stored: round 1, table 1", "Stored is 0-2-0, the very same. All is well.")
+    refused_by(file, 14, "AlreadyReported", ["1 2 1"], "Not stored: round 1, table 1", "Stored is 0-2-0. If that is wrong: fix 1 1 2 1 0")
     said(file, "pair", "1 2 0", "pair", "1 2 0")
     run_refusals_of_phases(f"{room}/other")
     refused_by(file, 9, "AllRoundsPaired", ["pair"], "standings, or cut")
@@ -231,10 +233,11 @@ def run_refusals_of_phases(room):
     """Refusals 6 and 13 speak of the case at hand."""
     event, file = started(room, ["Ana", "Bo", "Cy", "Di"], 1, 2)
     said(file, "pair", "1 2 0", "2 2 0", "cut", "y")
-    refused_by(file, 6, "NotSwiss", ["1 2 0"], "the playoff has begun. Its scores: play 1 1 2 0")
-    refused_by(file, 13, "BadScore", ["play 1 1 2 2"], "No match of the playoff ends so", "play 1 2 2 1")
-    said(file, "play 1 1 2 1")
-    refused_by(file, 6, "NotSwiss", ["fix 1 1 2 0"], "The event is over")
+    refused_by(file, 6, "NotSwiss", ["1 2 0"], "the playoff has begun. See: open")
+    refused_by(file, 6, "NotSwiss", ["drop 1"], "nobody drops any more", "play qf2 2 0")
+    refused_by(file, 13, "BadScore", ["play final 2 2"], "Not stored: final: ", "No match of the playoff ends so", "play qf2 2 1")
+    said(file, "play final 2 1")
+    refused_by(file, 6, "NotSwiss", ["fix 1 2 0"], "The event is over")
 
 
 def run_refusals_of_the_file(room):
@@ -259,7 +262,7 @@ def run_refusals_of_the_file(room):
         refused_by(file, 26, "NeedsReopen", ["1 2 0"], "serve again", options=("--port", str(port)))
     by_sql(file, "UPDATE event SET phase = 3")
     refused_by(file, 29, "Damaged", ["where"], "Go on from a copy: back")
-    check_said("back from a damaged file", said(file, "back 1", "y", "where"), "before pair 1", f"is {file}.away-0002-", "no round is paired yet")
+    check_said("back from a damaged file", said(file, "back 1", "y", "where"), "before the pairing of round 1", f"is {file}.away-0002-", "no round is paired yet")
 
 
 # ---- lists
@@ -313,7 +316,7 @@ def run_lists(room):
     left = [
         "row 3: no name",
         "row 5: Ana, as in row 2",
-        "Ana (Owls)",
+        "Ana (2)",
         "row 6: x",
         "more than 60 bytes",
         "row 7: bad\\x01one",
@@ -347,8 +350,8 @@ def run_names(room):
     """Names that look alike are asked for, letters that are guessed are said to be, and a wrong name is put right."""
     file, path = f"{room}/e.event", f"{room}/list.csv"
     said(file, "init E 3 0", "enrol Zo\u00eb", "enrol Petr Mayer", "enrol Cy", "enrol Di")
-    text = said(file, "enrol Zoe\u0308", "n", "enrol cy", "y", "enrol Di")
-    pieces = ["Zo\u00eb (1) differs in capitals or accents alone.", "Nobody was enrolled.", "Cy (3) differs", "cy (5) is enrolled.", "refused 2 NameTaken"]
+    text = said(file, "enrol Zoe\u0308", "n", "enrol cy", "y", "enrol  Di")
+    pieces = ["Zo\u00eb (1) looks the same", "Nobody was enrolled.", "Cy (3) looks the same", "cy (5) is enrolled.", "refused 2 NameTaken"]
     check_said("names that look alike", text, *pieces)
     with open(path, "wb") as it:
         it.write("Name\nDI\nAb\n\u0141uk\nab\n".encode("cp1250"))
@@ -359,15 +362,15 @@ def run_names(room):
     check_said("a list of names that are there", said(file, f"import {path} cp1250", "n"), "It would enrol nobody.", "Nobody was enrolled.")
     check("a list, who is enrolled", read(file).names, ["Zo\u00eb", "Petr Mayer", "Cy", "Di", "cy", "Ab", "\u0141uk"])
     text = said(file, "rename 2 Peter Meyer", "players", "rename 9 X", "rename 3 di", "rename 4", "where")
-    check_said("a name before the start", text, "Peter Meyer (2) is enrolled.", f"{file}.away-", "   2   Peter Meyer", "No player has this number", "has this name")
+    check_said("a name before the start", text, "Petr Mayer (2) is Peter Meyer now.", f"{file}.away-", "   2   Peter Meyer", "No player has number 9", "has this name")
     check_said("a name before the start, the plan", text, "as: rename 4 Peter Meyer", "7 players so far", "3 rounds, no cut")
     check("a name before the start, the file", read(file).names, ["Zo\u00eb", "Peter Meyer", "Cy", "Di", "cy", "Ab", "\u0141uk"])
     away = [it for it in os.listdir(room) if ".away-" in it]
     check("a name before the start, the old file", [read(f"{room}/{it}").names[1] for it in away if not it.endswith("-wal")], ["Petr Mayer"])
     text = said(file, "start", "pair", "rename 3 Cyril", "players", "standings", "round 1", "who cyr", "drop 3", "n")
-    check_said("a name after the start", text, "Cyril (3) is shown so", "   3   Cyril\n", " Cyril\n", "Cyril", "   3   Cyril", "Drop Cyril (3)?")
+    check_said("a name after the start", text, "Cy (3) is shown as Cyril", "   3   Cyril\n", " Cyril\n", "Cyril", "   3   Cyril", "Drop Cyril (3)?")
     check("a name after the start, the file", read(file).names[2], "Cy")
-    check_said("the enrolled name again", said(file, "rename 3 Cy", "players"), "Cy (3) is shown so", "   3   Cy\n")
+    check_said("the enrolled name again", said(file, "rename 3 Cy", "players"), "Cyril (3) is shown as Cy", "   3   Cy\n")
 
 
 # ---- copies
@@ -376,7 +379,7 @@ def run_names(room):
 def run_copies(room):
     """What comes behind a copy, and how the prompt goes back to it."""
     event, file = started(room, [f"P{it}" for it in range(1, 9)], 3, 0)
-    said(file, "pair", "1 2 0", "2 2 1", "3 2 0", "4 0 2", "drop 3", "y", "fix 1 1 2 1", "enrol Late", "pair", "1 2 0")
+    said(file, "pair", "1 2 0", "2 2 1", "3 2 0", "4 0 2", "drop 3", "y", "fix 1 2 1", "enrol Late", "pair", "1 2 0")
     before = rows_alone(file)
     copies = sorted(os.listdir(f"{file}.copies"))
     check(
@@ -386,7 +389,7 @@ def run_copies(room):
     )
     held = {it: open(f"{file}.copies/{it}", "rb").read() for it in copies}
     text = said(file, "back")
-    check_said("back lists them", text, "   1  20", "before pair 1\n", "   2  20", "before drop 3 P3\n", "   3  20", "before pair 2\n", "as: back 3")
+    check_said("back lists them", text, "   1  20", "before the pairing of round 1\n", "   2  20", "before the drop of P3 (3)\n", "   3  20", "before the pairing of round 2\n", "as: back 3")
     check_said("no is no", said(file, "back 2", "n"), "The event stays as it is.")
     check("no is no, the file", rows_alone(file), before)
     key = dict(keys_of(file))[2].hex()
@@ -394,7 +397,7 @@ def run_copies(room):
     check_said(
         "back",
         text,
-        "before drop 3 P3",
+        "before the drop of P3 (3)",
         f"is {file}.away-0004-",
         "round 1 has all its scores",
         "What came since",
@@ -409,7 +412,7 @@ def run_copies(room):
     check("the event in use is put away", rows_alone(f"{room}/{away[0]}") if len(away) == 1 else away, before)
     check("the copies stay", {it: open(f"{file}.copies/{it}", "rb").read() for it in copies}, held)
     check("the event of the copy goes on", (read(file).dropped, len(read(file).stored), len(read(file).names)), (set(), 1, 8))
-    text = said(file, "drop 3", "y", "fix 1 1 2 1", "enrol Late", "pair again")
+    text = said(file, "drop 3", "y", "fix 1 1 2 1 0", "enrol Late", "pair again")
     check_said("the same pairing again", text, key)
     check("the same round", sorted((a, b) for a, b, _ in read(file).stored[1]), played(before))
     check("no key was added", len(keys_of(file)), 2)
@@ -464,9 +467,9 @@ def run_back_over_the_cut(room):
     event, file = started(room, ["Ana", "Bo", "Cy", "Di"], 1, 2)
     said(file, "pair", "1 2 0", "2 2 0", "drop 4", "y")
     check_said("undo after a drop", said(file, "undo"), "There is no undo", "The last one: back 2, made before the drop of Di (4)\n")
-    text = said(file, "cut", "y", "undo", "play 1 1 2 1", "undo")
-    check_said("undo in the playoff", text, "back 3, made before the cut\n", "back 4, made before the score of stage 1, slot 1\n")
-    check_said("back over the cut", said(file, "back 3", "y"), "The playoff was begun since. To begin it again: cut", "  play 1 1 2 1 0\n")
+    text = said(file, "cut", "y", "undo", "play final 2 1", "undo")
+    check_said("undo in the playoff", text, "back 3, made before the cut\n", "back 4, made before the score of the final\n")
+    check_said("back over the cut", said(file, "back 3", "y"), "The playoff was begun since. To begin it again: cut", "  play final 2 1\n")
 
 
 def played(rows):
@@ -483,7 +486,7 @@ def run_left_over(room, file):
         it.write(b"half a copy")
     shutil.copy(f"{file}-wal", f"{file}.back-wal")
     text = said(file, "back 1", "y")
-    check_said("back was stopped", text, "before pair 1", "no round is paired yet")
+    check_said("back was stopped", text, "before the pairing of round 1", "no round is paired yet")
     check("back was stopped, the file", len(read(file).stored), 0)
     check("back was stopped, nothing is lost", os.path.exists(f"{file}.away-0099-20260101-000000"), True)
 
@@ -495,7 +498,7 @@ def run_copy_by_hand(room):
     check_said("copies by hand", text, "Copied, and opened: ", folders[0], "Copied, and opened: ", folders[1])
     stored = [read(f"{file}.copies/{it}/e.event").stored[0][0][2] for it in folders]
     check("copies by hand, what they hold", stored, [None, (2, 0, 0)])
-    check_said("copies by hand are listed", said(file, "back"), "before pair 1", "copy, made by hand", "copy, made by hand")
+    check_said("copies by hand are listed", said(file, "back"), "before the pairing of round 1", "copy, made by hand", "copy, made by hand")
     run_copy_of_a_log(f"{room}/other")
 
 
@@ -522,7 +525,7 @@ def run_init_again(room):
     with contextlib.suppress(FileNotFoundError):
         os.unlink(f"{file}-wal")
     text = said(file, "init Sunday 2 0")
-    check_said("init beside copies", text, "refused 27 NoEvent", "Go on from a copy: back", "is missing, and copies of it are there. Go on from one: back")
+    check_said("init beside copies", text, "Go on from a copy: back", "refused 27 NoEvent", "is missing, and copies of it are there. Go on from one: back")
     check("init beside copies, no file", os.path.exists(file), False)
     check_said("back where the file is gone", said(file, "back 1", "y"), "no round is paired yet. Next: pair")
     os.unlink(file)
@@ -591,15 +594,15 @@ def run_doubts(room):
     event.report(1, 1, (2, 0, 0), True)
     event.report(1, 2, (2, 1, 0), True)
     shown = f"In doubt: round 1, table 1: {match_shown(event, event.stored[0][0], (2, 0, 0))}"
-    check_said("doubt", said(file, "doubt 1"), shown, "fix 1 1 X Y")
+    check_said("doubt", said(file, "doubt 1"), shown, "fix 1 X Y")
     text = said(file, "open", "doubt", "where", "pair", "n")
     check_said("a doubt is listed", unfilled(text), "round 1 has all its scores. Next: pair. In doubt by round and table: 1 1", shown, shown, "In doubt by")
     check_said("pair asks back", text, "In doubt: table 1 of round 1 (2-0-0).", "Pair all the same? (y or n) n", "Nothing was paired.")
-    check_said("the same score again ends it", said(file, "fix 1 1 2 0", "doubt"), "ok ", "No score is in doubt.")
-    check_said("another score ends it", said(file, "doubt 1 1", "fix 1 1 0 2", "doubt", "pair"), "In doubt", "ok ", "No score is in doubt.", "Show it")
+    check_said("the same score again ends it", said(file, "fix 1 2 0", "doubt"), "ok ", "No score is in doubt.")
+    check_said("another score ends it", said(file, "doubt 1 1", "fix 1 0 2", "doubt", "pair"), "In doubt", "ok ", "No score is in doubt.", "Show it")
     said(file, "doubt 1 2")
     check_said("an older round", unfilled(said(file, "where")), "In doubt by round and table: 1 2")
-    for line, words in (("doubt 9", "no table 9"), ("doubt 1", "has no score"), ("doubt x", "as: doubt 9"), ("doubt 1 9", "no table 9")):
+    for line, words in (("doubt 9", "no table 9"), ("doubt 1", "has no score"), ("doubt x", "such as doubt 9"), ("doubt 1 9", "no table 9")):
         check_said(line, said(file, line), words)
     check_said("cut asks back", said(file, "1 2 0", "2 2 0", "cut", "n"), "table 2 of round 1 (2-1-0)", "Cut all the same? (y or n) n", "not begun")
 
@@ -619,10 +622,10 @@ def run_check(room):
     event, file = started(room, [f"P{it}" for it in range(1, 10)], 3, 0)
     lines = ["1 2 0", "2 2 1", "3 0 2", "4 1 1 1"]
     text = said(file, "pair", *lines, "drop 9", "y", "enrol Late", "pair", *lines, "pair", "check 1", "check 2", "check", "check 4", "check x")
-    check_said("check", text, *(f"Round {it} is what its key gives" for it in (1, 2, 3)), "Round 4 is not paired", "as: check 3")
+    check_said("check", text, *(f"Round {it} is what its key gives" for it in (1, 2, 3)), "Round 4 is not paired", "such as check 3")
     is_so = "as the rules pair it by its key"
     check("scripts/check", checked(file), (0, "".join(f"round {it}: {is_so}\n" for it in (1, 2, 3))))
-    said(file, "fix 1 1 0 2")
+    said(file, "fix 1 1 0 2", "y")
     status, text = checked(file)
     check_said("scripts/check after a correction", text, f"round 1: {is_so}", "was corrected since, this can't be told")
     check("scripts/check after a correction, the status", status, 1)
@@ -630,7 +633,7 @@ def run_check(room):
     keys = [f"round {number} {key.hex()}\n" for number, key in keys_of(file)]
     with open(f"{file}.keys", "w") as it:
         it.write(keys[0].replace(keys[0].split()[2], "ab" * 32) + keys[2])
-    check_said("check by another key", said(file, "check 1", "check 2"), "Round 1 is not what the copy", "differ", ".keys has no key of it")
+    check_said("check by another key", said(file, "check 1", "check 2"), "Round 1 is not what a copy", "differ", ".keys has no key of it")
     status, text = checked(file)
     check_said("scripts/check by another key", text, "round 1: not as the rules pair it from the scores", "round 2: its key is not in the list")
     for paths, due in (([], 2), (["/none"], 2), ([f"{file}.players.csv", f"{file}.keys", f"{file}.keys"], 1)):
@@ -757,7 +760,7 @@ exec "$REAL" "$@"
 def run_lost(room):
     """The program is killed before a command or behind it: the prompt says what is stored."""
     lossy = stand_in(room, LOSSY)
-    lines = [["start"], ["pair"], ["1 2 1"], ["fix 1 1 0 2"], ["drop 4", "y"], ["cut", "y"], ["play 1 1 2 0"], ["enrol Zed"]]
+    lines = [["start"], ["pair"], ["1 2 1"], ["fix 1 0 2"], ["drop 4", "y"], ["cut", "y"], ["play final 2 0"], ["enrol Zed"]]
     event = Event(1, 2)
     for name in ("Ana", "Bo", "Cy", "Di"):
         event.enrol(name)
@@ -824,7 +827,7 @@ KILLED = [f"enrol P{it}" for it in range(1, 6)] + [
     "pair",
     "1 2 0",
     "2 1 1 1",
-    "fix 1 1 0 2",
+    "fix 1 0 2",
     "drop 5",
     "y",
     "pair",
@@ -832,7 +835,7 @@ KILLED = [f"enrol P{it}" for it in range(1, 6)] + [
     "2 2 1",
     "cut",
     "y",
-    "play 1 1 2 0",
+    "play final 2 0",
 ]
 
 
@@ -855,7 +858,7 @@ def replayed(lines, file):
         elif name == "cut":
             event.end_rounds()
         elif name == "play":
-            event.play(int(rest[0]), int(rest[1]), (2, 0, 0))
+            event.play(1, 1, (2, 0, 0))
         elif name == "fix":
             event.report(1, 1, (0, 2, 0), False)
         elif name != "y":
@@ -931,7 +934,7 @@ def run_over_http(room):
             "1000 2 0",
             "2 0 0 3",
             "pair",
-            "fix 1 1 2 0",
+            "fix 1 2 0",
             "drop 1",
             "cut",
             "bracket",
@@ -953,10 +956,10 @@ def run_over_http(room):
             f"ok {event.serial - 1}: round 1, 1 table open: 2",
         ]
         pieces += [
-            "refused 14 AlreadyReported",
             "All is well.",
             "refused 14 AlreadyReported",
             "Stored is 2-1-0. If that is wrong, end `serve` and this, and type without --port:\nfix 1 1 0 2 0",
+            "refused 14 AlreadyReported",
             "refused 13 BadScore",
             "no count of games goes above 255",
         ]
@@ -969,7 +972,7 @@ def run_over_http(room):
         ]
         check_said("over HTTP", text, *pieces, "\n".join(event.slips(1)), "\n".join(event.standings()), event.names[0])
         check("over HTTP, the status", status, 1)
-        check_said("the file is held", said(file), "refused 25 Store", "--port 8080")
+        check_said("the file is held", said(file), "--port 8080", "refused 25 Store")
     check("over HTTP, the file", rows_of(read(file), "E"), rows_of(event, "E"))
     check_said("nobody serves", said(file, "1 2 0", words=("--port", str(free_port()))), "No answer at port", "No answer at port")
     with answering(200, None) as port:
@@ -988,22 +991,26 @@ def run_words(room):
     """What is typed and isn't understood, and the options."""
     event, file = started(room, ["Ana", "Bo", "Cy", "Di"])
     cases = {
-        "17 2": "Numbers are wanted, as: 17 2 1",
-        "17 2 1 1 1": "Numbers are wanted, as: 17 2 1",
-        "1 2 x": "Numbers are wanted",
-        "1 -2 0": "Numbers are wanted",
+        "17 2": "Type numbers, such as 17 2 1",
+        "17 2 1 1 1": "Type numbers, such as 17 2 1",
+        "1 2 x": "Type numbers",
+        "1 -2 0": "Type numbers",
         "1 300 0": "is no whole number from 0 to 255",
-        "fix 1 1": "as: fix 1 17 0 2",
-        "play 1": "as: play 1 2 2 1",
+        "fix 1 1": "such as fix 17 0 2",
+        "play 1": "such as play qf2 2 1",
         "drop": "as: drop 23, or drop Ana",
         "drop Zed": "Nobody has Zed in the name",
         "who": "as: who an",
-        "who zed": "Nobody has that in the name",
+        "who zed": "Nobody has zed in the name",
+        "who 99": "No player has number 99",
         "back 9": "There is no copy",
         "pair xyz": "64 hexadecimal digits",
         "pair again": "has no key for round 1",
         "init Friday": "as: init Friday Night 3 0",
         "standing": "Is it standings?",
+        "standings x": "standings 8 for the first eight",
+        "standings 9 9": "standings 8 for the first eight",
+        "standings after 3": "Round 3 is not complete",
         "xyzzy": "xyzzy is no command. See: help",
         "undo": "There is no undo",
         "help": "17 2 1 1",
@@ -1048,10 +1055,10 @@ def run_typed(room):
     check_said("a drop by the same slip", text, f"Drop {player_shown(event, first)}?", "is dropped.")
     check("typed, the file", rows_alone(file), rows_of(event, "E"))
     check_said("slips", said(file, "slips 1"), "\n".join(event.slips(1)))
-    check_said("correct", said(file, "correct 1 1 0 2 0"), "0-2-0", "in place of 2-1-0", "ok ")
-    for line in ("1 draw", "1 1-1 draw", "17 id"):
+    check_said("correct", said(file, "correct 1 1 0 2 0"), "ok ", "0-2-0", "in place of 2-1-0")
+    for line in ("1 draw", "1 1-1 draw", "17 tie"):
         check_said(line, said(file, line), "17 1 1 1 with a drawn game", "17 0 0 3")
-    check_said("a drop behind a refused result", said(file, f"1 2 1 drop {first}"), "refused 14 AlreadyReported", "fix 1 1 2 1 0")
+    check_said("a drop behind a refused result", said(file, f"1 2 1 drop {first}"), "fix 1 1 2 1 0", "refused 14 AlreadyReported")
     check_said("help all", said(file, "help all"), "17 2 1", "init NAME ROUNDS CUT", "result 3 17 2 1 0")
 
 
@@ -1074,7 +1081,7 @@ def run_listing(room):
         if champion in match[:2] and match[1]
     ]
     due += [
-        f"stage {stage}, slot {slot}: {match_shown(event, match, match[2])}"
+        f"{slot_named(event, stage, slot)}: {match_shown(event, match, match[2])}"
         for stage, matches in enumerate(event.stages, 1)
         for slot, match in enumerate(matches, 1)
         if champion in match[:2]
@@ -1086,7 +1093,7 @@ def run_listing(room):
 def run_clock(room):
     event, file = started(room, ["Ana", "Bo"])
     text = said(file, "clock", "clock 50", "clock", "clock off", "clock 0", "clock x")
-    check_said("the clock", text, "No clock runs.", "50 min, until ", "50 min, until ", "No clock runs.", "1 to 600 minutes", "as: clock 50")
+    check_said("the clock", text, "No clock runs.", "50 min, until ", "50 min, until ", "No clock runs.", "1 to 600 minutes", "such as clock 50")
     said(file, "clock 30")
     with open(f"{file}.clock") as it:
         found = re.fullmatch("until ([0-9]+) of 30\n", it.read())
@@ -1112,7 +1119,7 @@ def run_texts(_room):
     sys.path.insert(0, os.path.dirname(desk))
     module = importlib.import_module("companions.prompt.texts")
     check("refusals with words", sorted(module.REFUSALS), list(range(1, 31)))
-    texts = [*module.REFUSALS.values(), module.ALL_COMMANDS, module.UNDO, module.MISSING]
+    texts = [*module.REFUSALS.values(), module.ALL_COMMANDS, module.BEGINNING, module.PLAYOFF, module.UNDO, module.MISSING]
     check("words fit 80 columns", [it for text in texts for it in text.split("\n") if len(it) > 80], [])
 
 

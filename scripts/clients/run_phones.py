@@ -130,11 +130,11 @@ def run_prompt(room):
     check_said("two scores", said, "1 table open: 4", "Two scores at table 1", "a phone said 0-2. If that is right: fix 1 1 0 2 0", "type it again: fix 1 1 2 1 0")
     check_said("who goes home", said, f"({first}) wants to go home after the round: drop {first}")
     check_said("pair asks back", at_the_prompt(program, file, "4 2 0", "pair", "n"), "stored is 2-1, and a phone says 0-2", "Pair all the same?", "Nothing was paired.")
-    said = at_the_prompt(program, file, "fix 1 1 2 1", "phones", f"drop {first}", "y", "phones")
+    said = at_the_prompt(program, file, "fix 1 2 1", "phones", f"drop {first}", "y", "phones")
     check_said("the same score settles it", said, "ok ", "wants to go home", "is dropped")
     check("it is settled", ("Two scores" in said, said.count("wants to go home")), (False, 1))
     report_to(file, 1, "1-2-0", "other", "2-1-0")
-    check("the other score settles it too", "Two scores" in at_the_prompt(program, file, "fix 1 1 1 2", "phones"), False)
+    check("the other score settles it too", "Two scores" in at_the_prompt(program, file, "fix 1 1 2", "phones"), False)
     at_the_prompt(program, file, "pair", *(f"{table} 2 0" for table in range(1, 4)))
     report_to(file, 1, "0-2-0", "other", "2-0-0", number=2)
     check_said("cut asks back", at_the_prompt(program, file, "cut", "n"), "Two scores at table 1", "Cut all the same?", "The playoff was not begun.")
@@ -148,7 +148,7 @@ def run_news(room):
             left_out("news above a menu", "python3-prompt-toolkit is not installed")
             continue
         prompt = Terminal(file, term)
-        prompt.until(b"desk> ")
+        prompt.until(b"r1> ")
         prompt.keys("who 00")
         prompt.until(b"00", 1)
         report_to(file, 1, "2-0-0", "stored", "2-0-0")
@@ -301,7 +301,7 @@ def run_screens(room):
     check("taken", (pages.hand_in(1, "2-1-0"), results(program, file)[1, 1]), ((303, aim), "2-1-0"))
     check("the same again", pages.hand_in(1, "2-1-0"), (303, aim))
     check("another one", (pages.hand_in(1, "0-2-0"), results(program, file)[1, 1]), ((303, f"{aim}?said=0-2-0"), "2-1-0"))
-    check_said("the prompt", at_the_prompt(program, file, "phones", "fix 1 1 0 2", "phones"), "fix 1 1 0 2 0", "ok ")
+    check_said("the prompt", at_the_prompt(program, file, "phones", "fix 1 0 2", "phones"), "fix 1 1 0 2 0", "ok ")
     check("no match ends so", (pages.hand_in(2, "2-2-0")[0], results(program, file)[1, 2]), (409, ""))
     for table in (2, 3, 4):
         check(f"table {table}", pages.hand_in(table, "2-0-0")[0], 303)
@@ -379,7 +379,7 @@ def run_beside(room, dice):
         aims = {table: it for table, it in targets(program, file).items() if table > 6}
         scores = {it: dice.choice(SCORES) for it in aims}
         burst = Burst(gateway, aims, scores)
-        said = at_the_prompt(program, file, *(f"fix 1 {it} 0 2" for it in range(1, 7)), status=0)
+        said = at_the_prompt(program, file, *(f"fix {it} 0 2" for it in range(1, 7)), status=0)
         burst.end()
         check("corrections", len(re.findall("^ok ", said, re.M)), 6)
         check("each phone is answered", (burst.acknowledged, burst.others), (scores, []))

@@ -168,7 +168,7 @@ class Play:
         self.tap_all(gateway, codes, some, 0)
         number = len(self.event.stored)
         copies = self.say("back")
-        chosen = next(line.split()[0] for line in copies.split("\n") if f"before pair {number}" in line)
+        chosen = next(line.split()[0] for line in copies.split("\n") if f"before the pairing of round {number}" in line)
         text = self.say(f"back {chosen}", "y")
         check("back names what came since", "Round 2 was paired since" in text, True)
         self.event = self.before

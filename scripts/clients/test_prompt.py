@@ -7,23 +7,7 @@ import time
 import pytest
 
 from scripts.clients.prompt import LETTERS, Evening, check_said
-from scripts.clients.random_evenings import laid
-from scripts.models.plain_event import Event
 from scripts.models.plain_file import read
-
-
-@pytest.fixture
-def started(program, room):
-    """An event that has begun, and its file."""
-
-    def start(*names, rounds=3, cut=0):
-        event = Event(rounds, cut)
-        for name in names:
-            event.enrol(name)
-        event.start()
-        return event, laid(program.path, f"{room}/e.event", event, "E")
-
-    return start
 
 
 def test_an_evening_through_a_pipe(prompt, room):
@@ -40,7 +24,7 @@ def test_an_evening_through_a_terminal(prompt, room):
     """With completion, history and Ctrl-C; Ctrl-D ends it."""
     file = f"{room}/friday.event"
     terminal = prompt.terminal(file)
-    check_said("the beginning", terminal.began, "refused 27 NoEvent", "init Friday Night 3 0", "desk> ")
+    check_said("the beginning", terminal.began, "friday.event is new. Begin with", "init Friday 6 8", "desk> ")
     played = Evening(file, terminal.send)
     played.enrol()
     terminal.keys("who Zo\t\r")

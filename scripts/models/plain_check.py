@@ -16,10 +16,14 @@ EXAMPLE = "example: scripts/check players.csv results.csv friday.event.keys"
 
 
 def keys_of(text):
-    """The key of each round: its last one that is not marked as unused."""
+    """The keys of each round, but for those that are marked as unused. A round that was paired again after `back` has several."""
     lines = re.findall(r"^round (\d+) ([0-9A-Fa-f]{64})( unused)?$", text, re.M)
     unused = {(number, key) for number, key, mark in lines if mark}
-    return {int(number): bytes.fromhex(key) for number, key, mark in lines if not mark and (number, key) not in unused}
+    keys = {}
+    for number, key, mark in lines:
+        if not mark and (number, key) not in unused:
+            keys.setdefault(int(number), []).append(bytes.fromhex(key))
+    return keys
 
 
 def points_of(matches):
@@ -45,21 +49,26 @@ def missing(rounds, number):
     return sorted(set().union(*sit[: number - 1]) & set().union(*sit[number:]) - sit[number - 1])
 
 
-def verdict(rounds, number, key):
+def is_due(before, sitting, key, matches):
+    try:
+        return due(before, sitting, key) == [tuple(match[:2]) for match in matches]
+    except OutOfSteps:
+        return False
+
+
+def verdict(rounds, number, keys):
     matches = rounds[number - 1]
     if missing(rounds, number):
         return f"it leaves out {', '.join(map(str, missing(rounds, number)))}, who sit before and after it"
     before = [match for earlier in rounds[: number - 1] for match in earlier]
     if not all(score for _, _, score in before):
         return "a table of an earlier round has no score"
-    if key is None:
+    if not keys:
         return "its key is not in the list of keys"
     sitting = sorted(player for match in matches for player in match[:2] if player)
-    try:
-        is_so = due(before, sitting, key) == [tuple(match[:2]) for match in matches]
-    except OutOfSteps:
-        is_so = False
-    return AS_THE_RULES if is_so else f"{OTHERWISE}. {CORRECTED}" if number > 1 else OTHERWISE
+    if any(is_due(before, sitting, key, matches) for key in keys):
+        return AS_THE_RULES
+    return f"{OTHERWISE}. {CORRECTED}" if number > 1 else OTHERWISE
 
 
 def verdicts(results, keys):
@@ -69,7 +78,7 @@ def verdicts(results, keys):
         if number > len(rounds):
             rounds.append([])
         rounds[-1].append((a, b, score))
-    return [f"round {number}: {verdict(rounds, number, keys.get(number))}" for number in range(1, len(rounds) + 1)]
+    return [f"round {number}: {verdict(rounds, number, keys.get(number, []))}" for number in range(1, len(rounds) + 1)]
 
 
 def results_of(data, players):

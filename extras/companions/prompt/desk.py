@@ -5,26 +5,28 @@ import cmd
 import difflib
 import os
 import re
-import threading
 import traceback
 from typing import Optional
 
+from companions.event import Phase
 from companions.names import visible
 from companions.program import FAULTS, Declined, NoAnswer, Refusal, Refused, Source
 from companions.prompt.evening import Evening
 from companions.prompt.lines import Input, OutOfStep
 from companions.prompt.listing import Listing
 from companions.prompt.offers import OF_PLAYERS, Offer, offers_of_files, offers_of_players, offers_of_words
-from companions.prompt.phones import News, Phones
+from companions.prompt.news import News
+from companions.prompt.phones import Phones
 from companions.prompt.players import Players
 from companions.prompt.results import Results
 from companions.prompt.rounds import Rounds
-from companions.prompt.session import Session
-from companions.prompt.texts import ALL_COMMANDS, COMMANDS
+from companions.prompt.session import Session, begun, prompt_at, why_not_used
+from companions.prompt.texts import ALL_COMMANDS, BEGINNING, COMMANDS, PLAYOFF
 
-PROMPT = "desk> "
-# the command line's words for what is shorter here; they are taken, and not offered
-ALIASES = ("result", "correct", "slips", "playoff", "exit")
+# the command line's words for what is shorter here, and other spellings; they are taken, and not offered
+ALIASES = ("result", "correct", "slips", "playoff", "exit", "enroll")
+# how like a word has to be to one that is known
+LIKENESS = 0.8
 
 
 def of_file(fault: OSError) -> str:
@@ -41,10 +43,14 @@ def own_fault(fault: Exception) -> str:
     )
 
 
+def only(word: str, rest: str) -> None:
+    """Declines what is typed after a word that takes nothing."""
+    if rest:
+        raise Declined(f"{word} takes nothing after it. To do it, type: {word}")
+
+
 class Desk(cmd.Cmd):
     """Each word is a method: `fix` is `do_fix`. `cmd` finds it; whether to end is what it gives back."""
-
-    prompt = PROMPT
 
     def __init__(self, source: Source, file: str):
         super().__init__()
@@ -65,12 +71,12 @@ class Desk(cmd.Cmd):
         if re.match("[0-9]", name):
             self.enter(line)
             return
-        near = difflib.get_close_matches(name, self.words, 1)
+        near = difflib.get_close_matches(name, self.words, 1, LIKENESS)
         raise Declined(f"{visible(name)} is no command. {f'Is it {near[0]}? ' if near else ''}See: help")
 
     def enter(self, line: str) -> None:
         """A result, and who drops by the same slip: 17 2 1 drop 12."""
-        score, *dropping = re.split(r"\s+drop\s+", line)
+        score, *dropping = re.split(r"\s+drop\s+", line, flags=re.I)
         self.results.enter(score)
         for player in dropping:
             self.players.drop(player)
@@ -87,10 +93,12 @@ class Desk(cmd.Cmd):
         self.results.doubt(rest)
 
     def do_open(self, rest: str) -> None:
-        self.results.list_open(rest)
+        only("open", rest)
+        self.results.list_open()
 
     def do_phones(self, rest: str) -> None:
-        self.phones.list_open(rest)
+        only("phones", rest)
+        self.phones.list_open()
 
     # ---- rounds and the playoff
 
@@ -106,25 +114,30 @@ class Desk(cmd.Cmd):
         self.rounds.check(rest)
 
     def do_keys(self, rest: str) -> None:
-        self.rounds.show_keys(rest)
+        only("keys", rest)
+        self.rounds.show_keys()
 
-    def do_standings(self, _rest: str) -> None:
-        self.session.show("standings")
+    def do_standings(self, rest: str) -> None:
+        self.rounds.standings(rest)
 
-    def do_players(self, _rest: str) -> None:
+    def do_players(self, rest: str) -> None:
+        only("players", rest)
         self.session.show("players")
 
-    def do_bracket(self, _rest: str) -> None:
+    def do_bracket(self, rest: str) -> None:
+        only("bracket", rest)
         self.session.show("bracket")
 
     def do_export(self, rest: str) -> None:
         self.listing.export(rest)
 
     def do_final(self, rest: str) -> None:
-        self.listing.final(rest)
+        only("final", rest)
+        self.listing.final()
 
     def do_cut(self, rest: str) -> None:
-        self.rounds.cut(rest)
+        only("cut", rest)
+        self.rounds.cut()
 
     def do_play(self, rest: str) -> None:
         self.rounds.play(rest)
@@ -142,6 +155,8 @@ class Desk(cmd.Cmd):
     def do_enrol(self, rest: str) -> None:
         self.players.enrol(rest)
 
+    do_enroll = do_enrol
+
     def do_rename(self, rest: str) -> None:
         self.players.rename(rest)
 
@@ -154,7 +169,8 @@ class Desk(cmd.Cmd):
         self.evening.init(rest)
 
     def do_start(self, rest: str) -> None:
-        self.evening.start(rest)
+        only("start", rest)
+        self.evening.start()
 
     def do_title(self, rest: str) -> None:
         self.evening.title(rest)
@@ -163,10 +179,12 @@ class Desk(cmd.Cmd):
         self.evening.clock(rest)
 
     def do_migrate(self, rest: str) -> None:
-        self.evening.migrate(rest)
+        only("migrate", rest)
+        self.evening.migrate()
 
     def do_undo(self, rest: str) -> None:
-        self.evening.undo(rest)
+        only("undo", rest)
+        self.evening.undo()
 
     def do_copy(self, rest: str) -> None:
         self.evening.copy(rest)
@@ -174,13 +192,23 @@ class Desk(cmd.Cmd):
     def do_back(self, rest: str) -> None:
         self.evening.back(rest)
 
-    def do_where(self, _rest: str) -> None:
+    def do_where(self, rest: str) -> None:
+        only("where", rest)
         self.session.say_where()
 
     def do_help(self, rest: str) -> None:
-        self.session.say_as_it_is(ALL_COMMANDS if rest == "all" else COMMANDS)
+        self.session.say_as_it_is(ALL_COMMANDS if rest == "all" else self.help_now())
 
-    def do_quit(self, _rest: str) -> bool:
+    def help_now(self) -> str:
+        """What is typed in this phase."""
+        phase = self.session.phase_or_none()
+        if phase in (Phase.PLAYOFF, Phase.FINISHED):
+            return PLAYOFF
+        is_before = phase is Phase.ENROLLING or (phase is None and self.session.is_new())
+        return BEGINNING if is_before else COMMANDS
+
+    def do_quit(self, rest: str) -> bool:
+        only("quit", rest)
         return True
 
     do_exit = do_quit
@@ -192,6 +220,8 @@ class Desk(cmd.Cmd):
         line = line.strip()
         name, *rest = re.split(r"[ \t]+", line, maxsplit=1)
         name = "help" if name == "?" else name
+        # as a machine writes the first word of a line
+        name = name.lower() if name.lower() in self.words else name
         return (name, "".join(rest), line) if line else (None, None, line)
 
     def emptyline(self) -> bool:
@@ -204,7 +234,7 @@ class Desk(cmd.Cmd):
         try:
             return bool(self.onecmd(line))
         except Refused as refused:
-            session.explain(refused, line.split()[0])
+            session.explain(refused, line.split()[0].lower())
         except Declined as fault:
             session.say_failed(str(fault))
         except NoAnswer:
@@ -220,14 +250,21 @@ class Desk(cmd.Cmd):
     def go(self) -> int:
         """Reads lines until they end. The status to end with."""
         self.begin()
+        if not self.lines.is_terminal:
+            return self.go_on()
+        self.news.begin()
+        try:
+            return self.go_on()
+        finally:
+            self.news.end()
+
+    def go_on(self) -> int:
         is_terminal = self.lines.is_terminal
-        if is_terminal:
-            threading.Thread(target=self.news.go_on, daemon=True).start()
         while True:
             try:
                 for line in self.news.lines():
                     self.session.say_filled(visible(line))
-                if self.done(self.lines.line(self.prompt)):
+                if self.done(self.lines.line(prompt_at(self.session.known))):
                     break
             except KeyboardInterrupt:
                 self.lines.ahead.clear()
@@ -245,8 +282,18 @@ class Desk(cmd.Cmd):
     def begin(self) -> None:
         session = self.session
         try:
-            session.say_where()
-            self.say_unused_key()
+            fault = why_not_used(session.file) if session.is_new() else ""
+            if fault:
+                session.say_failed(fault)
+            elif session.is_new():
+                name = os.path.splitext(os.path.basename(session.file))[0]
+                session.say(
+                    f"{visible(session.file)} is new. Begin with its name, the rounds and the cut, as:",
+                    f"init {begun(visible(name))} 6 8",
+                )
+            else:
+                session.say_where()
+                self.say_unused_key()
         except Refused as refused:
             session.explain(refused)
             # a pipe may begin by making the event
@@ -271,7 +318,7 @@ class Desk(cmd.Cmd):
 
     def is_command(self, line: str) -> bool:
         """Whether a line is for the prompt, and no answer to a question."""
-        name = line.strip().partition(" ")[0]
+        name = line.strip().partition(" ")[0].lower()
         return name in self.words or name[:1].isdecimal()
 
     def offers(self, text: str) -> list[Offer]:

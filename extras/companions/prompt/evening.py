@@ -7,18 +7,21 @@ import time
 from typing import Iterator, Optional
 
 from companions.checking import opened
-from companions.clock import MOST_MINUTES, Clock, keep_clock, kept_clock, stop_clock
+from companions.clock import Clock, keep_clock, kept_clock, start_clock, stop_clock
 from companions.copies import Copy
 from companions.event import Event, Phase, read_or_none
 from companions.files import move, time_stamp
+from companions.holding import held_by_nobody
 from companions.keys import Keys
-from companions.lists import Players
+from companions.lists import Bracket, Players, Rounds
 from companions.names import visible
 from companions.phones.codes import path_of as path_of_secret
 from companions.program import FAULTS, Declined
-from companions.prompt.lines import numbers_in, unbroken
+from companions.prompt.lines import minutes_of, numbers_in, unbroken
 from companions.prompt.session import Command, Session
 from companions.prompt.texts import UNDO
+from companions.reports import shown_score
+from companions.stages import slot_typed
 from companions.title import keep_title
 
 
@@ -43,6 +46,7 @@ class Evening:
             for path in (*kept, path_of_secret(session.file), session.reports.path, f"{session.file}.clock"):
                 self.put_aside(path)
             keep_title(session.file, found[1])
+        session.has_moved = True
         session.say_where()
         session.say("Rounds and cut can't be changed later. If they are wrong, make another FILE.")
 
@@ -59,57 +63,100 @@ class Evening:
         self.session.say(self.session.title())
 
     def clock(self, rest: str) -> None:
-        """Starts, shows or stops the clock of the board."""
+        """Starts, shows or stops the clock of the board, or gives time back."""
         session = self.session
         if rest in ("off", "stop"):
             stop_clock(session.file)
+        elif rest.startswith("+"):
+            self.give_time(minutes_of(rest[1:], "clock +3"))
         elif rest:
-            minutes = int(numbers_in(rest, 1, 1, "clock 50, or clock off")[0])
-            if not 1 <= minutes <= MOST_MINUTES:
-                raise Declined(f"A clock runs for 1 to {MOST_MINUTES} minutes, as: clock 50")
-            keep_clock(session.file, Clock(int(time.time()) + 60 * minutes, minutes))
+            start_clock(session.file, minutes_of(rest, "clock 50, clock +3, or clock off"))
         clock = kept_clock(session.file)
         session.say(
             clock.shown(time.time()) if clock else "No clock runs. To start one for 50 minutes: clock 50"
         )
 
-    def start(self, _rest: str) -> None:
+    def give_time(self, minutes: int) -> None:
+        """The clock ends later. One that has ended goes on for so long from now."""
+        clock = kept_clock(self.session.file)
+        if not clock:
+            raise Declined("No clock runs. To start one for 50 minutes: clock 50")
+        until = max(clock.until, int(time.time())) + 60 * minutes
+        keep_clock(self.session.file, Clock(until, clock.minutes))
+
+    def start(self) -> None:
         session = self.session
         session.must_be_ours("start")
         with unbroken():
             session.send(Command(("start",), lambda event: event.phase is not Phase.ENROLLING))
+        session.has_moved = True
         session.say_where()
 
-    def migrate(self, _rest: str) -> None:
+    def migrate(self) -> None:
         self.session.must_be_ours("migrate")
         # nothing shows whether it was done, and doing it twice does no harm
         self.session.send_copied(Command(("migrate",), lambda _: False), "migrate")
 
-    def undo(self, _rest: str) -> None:
+    def undo(self) -> None:
         self.session.say_as_it_is(UNDO)
         befores = [copy for copy in self.session.copies.all() if copy.what.startswith("before-")]
         if befores:
             last = befores[-1]
-            self.session.say(
-                f"The last one: back {last.number}, made before {last.made_before(self.players_or_none())}"
-            )
+            came = last.came_after(self.players_or_none(), self.session.first_stage)
+            self.session.say(f"The last one: back {last.number}, made before {came}")
 
     # ---- copies
 
-    def copy(self, _rest: str) -> None:
+    def copy(self, rest: str) -> None:
+        """Copies the event beside itself, and to a second place if one is named here or was named before."""
         session = self.session
         session.must_be_ours("copy")
+        if rest in ("off", "stop"):
+            session.second.forget()
+            session.say(f"Copies are made beside {session.file} only from now on.")
+            return
+        folder = os.path.abspath(os.path.expanduser(rest)) if rest else session.second.folder()
+        if rest and not os.path.isdir(folder):
+            raise Declined(
+                f"There is no folder {visible(folder)}.\n"
+                "Plug the stick in, and look where it is, as by: ls /media/*"
+            )
+        session.look_again()
         shown = session.event.read()
         with unbroken():
             copy = session.copies.make_by_hand()
-        with opened(session.source, copy) as program:
+        self.check_copy(copy, shown)
+        if folder:
+            self.copy_to(folder, copy, shown, is_new=bool(rest))
+
+    def check_copy(self, copy: Copy, shown: tuple[Players, Rounds, Bracket]) -> None:
+        """Opens the copy, and compares it with what was shown before it was made."""
+        with opened(self.session.source, copy) as program:
             is_same = Event(program).read() == shown
         if not is_same:
             raise Declined(
                 "The copy is not what the event was. A command may have come in between.\n"
-                f"Copy again: copy. It lies in {copy.path}"
+                f"Copy again: copy. It lies in {visible(copy.path)}"
             )
-        session.say(f"Copied, and opened: {copy.path}")
+        self.session.say(f"Copied, and opened: {visible(copy.path)}")
+
+    def copy_to(self, folder: str, copy: Copy, shown: tuple[Players, Rounds, Bracket], is_new: bool) -> None:
+        session, second = self.session, self.session.second
+        try:
+            with unbroken():
+                there = second.copy_to(folder, copy)
+                if is_new:
+                    second.keep(folder)
+        except OSError as fault:
+            why = fault.strerror or str(fault)
+            raise Declined(
+                f"No copy was made at {visible(folder)}: {why}.\nThe one beside the event is there."
+            ) from None
+        self.check_copy(there, shown)
+        if is_new:
+            session.say("From now on each copy goes there too. To end that: copy off")
+            if not second.is_another_disk(folder):
+                session.say("It is on the same disk as the event: if that breaks, both are gone.")
 
     def back(self, rest: str) -> None:
         session = self.session
@@ -119,9 +166,9 @@ class Evening:
         if not copies:
             raise Declined("There is no copy yet. One is made before each pair, drop, cut and play.")
         if not words:
-            players = self.players_or_none()
+            players, first = self.players_or_none(), session.first_stage
             session.say(
-                *(copy.shown(players) for copy in copies),
+                *(copy.shown(players, first) for copy in copies),
                 f"Go on from one of them, as: back {copies[-1].number}",
             )
             return
@@ -138,16 +185,20 @@ class Evening:
 
     def go_back(self, copy: Copy) -> None:
         session = self.session
-        before, after = read_or_none(session.source), self.read_copy(copy)
+        after = self.read_copy(copy)
         if after is None:
-            raise Declined(f"This copy can't be opened. Take another one. It lies in {copy.path}")
-        session.say(copy.shown(after.players))
+            raise Declined(f"This copy can't be opened. Take another one. It lies in {visible(copy.path)}")
+        with held_by_nobody(session.file):
+            session.say(copy.shown(after.players, after.first_stage or session.first_stage))
         if not session.lines.says_yes("Go on from this copy? The event in use is put away beside it."):
             raise Declined("The event stays as it is.")
-        with unbroken():
+        with unbroken(), session.source.turn.taken():
+            # whatever came while the question stood came since the copy too
+            before = read_or_none(session.source)
             away = session.copies.put_in_place(copy)
+        session.has_moved = True
         if away:
-            session.say(f"The event that was in use is {away} now.")
+            session.say(f"The event that was in use is {visible(away)} now.")
         session.say_where()
         if before:
             session.say(*came_since(before, session.event, session.keys))
@@ -178,7 +229,8 @@ def playoff_since(before: Event, now: Event) -> list[str]:
     for stage, matches in enumerate(before.stages, 1):
         for match in matches:
             if match.score and now.score_in(stage, str(match.place)) != match.score:
-                scores.append(f"  play {stage} {match.place} {' '.join(match.score.split('-'))}")
+                slot = slot_typed(stage, match.place, before.first_stage)
+                scores.append(f"  play {slot} {' '.join(shown_score(match.score).split('-'))}")
     if scores:
         found += ["Scores of the playoff that came since, where the same players meet:", *scores]
     return found

@@ -4,11 +4,13 @@ from __future__ import annotations
 import contextlib
 import os
 import re
+import select
 import signal
 import sys
 import threading
 from typing import Callable, Iterator, List, Optional, Protocol
 
+from companions.clock import MOST_MINUTES
 from companions.names import visible
 from companions.program import Declined, Score
 from companions.prompt.offers import Offers
@@ -46,7 +48,13 @@ class Typing(Protocol):
     def answer(self, question: str) -> str: ...
 
     def say_above(self, prompt: str, text: str) -> None:
-        """Says what came in above the line that is being typed, which stays as it is."""
+        """Says what came in above the line that is being typed, which stays as it is, behind this prompt."""
+
+    def typed(self) -> str:
+        """What is typed of the line so far."""
+
+    def is_ahead(self) -> bool:
+        """Whether keys were pressed before the line is asked for."""
 
 
 class Readline:
@@ -75,11 +83,16 @@ class Readline:
     def answer(self, question: str) -> str:
         return input(question)
 
+    def typed(self) -> str:
+        return readline.get_line_buffer() if readline else ""
+
+    def is_ahead(self) -> bool:
+        return bool(select.select([sys.stdin], [], [], 0)[0])
+
     def say_above(self, prompt: str, text: str) -> None:
-        typed = readline.get_line_buffer() if readline else ""
         is_plain = os.environ.get("TERM", "dumb") in PLAIN_TERMINALS
         # the line is taken away and comes again; where a terminal can't take it away, a new one is begun
-        print(f"{NEW_LINE if is_plain else LINE_AWAY}{text}\n{prompt}{typed}", end="", flush=True)
+        print(f"{NEW_LINE if is_plain else LINE_AWAY}{text}\n{prompt}{self.typed()}", end="", flush=True)
 
 
 def typing_at_terminal(offers: Offers) -> Typing:
@@ -108,10 +121,20 @@ class Input:
     def is_asking(self) -> bool:
         return self.asking is not None
 
-    def say_above(self, lines: List[str]) -> None:
+    def say_above(self, lines: List[str], prompt: Optional[str] = None) -> Optional[str]:
+        """What was typed of the line by then, or None if nothing was said. The prompt may change with it."""
         with self.screen:
-            if lines and self.typing and self.asking is not None:
-                self.typing.say_above(self.asking, visible("\n".join(lines)))
+            if not lines or not self.typing or self.asking is None:
+                return None
+            self.asking = prompt or self.asking
+            typed = self.typing.typed()
+            self.typing.say_above(self.asking, visible("\n".join(lines)))
+            return typed
+
+    @property
+    def is_ahead(self) -> bool:
+        """Whether the next line was typed, or begun, before it is asked for. A pipe's always are."""
+        return not self.typing or bool(self.ahead) or self.typing.is_ahead()
 
     @property
     def is_terminal(self) -> bool:
@@ -178,11 +201,36 @@ def numbers_in(text: str, least: int, most: int, example: str) -> list[str]:
     """The numbers of a line."""
     words = spread(text).split()
     if not least <= len(words) <= most or not all(re.fullmatch("[0-9]{1,9}", word) for word in words):
-        raise Declined(f"Numbers are wanted, as: {example}")
+        raise Declined(f"Type numbers, such as {example}")
     return [str(int(word)) for word in words]
+
+
+def with_score(text: str) -> str:
+    """A line whose score may be typed without spaces: 7 20 for 7 2 0, and 7 id for an intended draw."""
+    words = spread(text).split()
+    if len(words) > 1 and words[-1].lower() == "id":
+        return " ".join([*words[:-1], "0", "0", "3"])
+    if len(words) == 2 and re.fullmatch("[0-3]{2,3}", words[1]):
+        return " ".join([words[0], *words[1]])
+    return text
 
 
 def score_in(words: list[str]) -> Score:
     """The three counts, with 0 for a count of drawn games that isn't there."""
     x, y, *rest = words
     return x, y, (rest[0] if rest else "0")
+
+
+def minutes_in(text: str) -> Optional[int]:
+    """Minutes, as 50, 50min or 50 minutes; None if it is none."""
+    found = re.fullmatch(r"([0-9]{1,4})\s*(?:m|min|mins|minutes)?", text.strip(), re.I)
+    return int(found[1]) if found else None
+
+
+def minutes_of(text: str, example: str) -> int:
+    minutes = minutes_in(text)
+    if minutes is None:
+        raise Declined(f"Type minutes, such as {example}")
+    if not 1 <= minutes <= MOST_MINUTES:
+        raise Declined(f"A clock runs for 1 to {MOST_MINUTES} minutes, such as {example}")
+    return minutes

@@ -43,7 +43,7 @@ class Listing:
             raise Declined(f"{path} is there already. Name another file, or take it away first.") from None
         self.session.say(f"Written: {path}")
 
-    def final(self, _rest: str) -> None:
+    def final(self) -> None:
         session = self.session
         session.must_be_ours("final")
         ranking = final_ranking(session.event)

@@ -1,11 +1,14 @@
 """Lines from a terminal by prompt_toolkit: a menu shows how a word or a name may go on."""
 from __future__ import annotations
 
+import select
+import sys
 from typing import Iterable
 
 from prompt_toolkit import PromptSession
 from prompt_toolkit.completion import CompleteEvent, Completer, Completion
 from prompt_toolkit.document import Document
+from prompt_toolkit.input.typeahead import get_typeahead, store_typeahead
 from prompt_toolkit.patch_stdout import patch_stdout
 
 from companions.prompt.offers import Offers
@@ -32,7 +35,16 @@ class Menus:
         with patch_stdout():
             return str(self.lines.prompt(prompt))
 
-    def say_above(self, _prompt: str, text: str) -> None:
+    def typed(self) -> str:
+        return str(self.lines.default_buffer.text)
+
+    def is_ahead(self) -> bool:
+        keys = get_typeahead(self.lines.input)
+        store_typeahead(self.lines.input, keys)
+        return bool(keys) or bool(select.select([sys.stdin], [], [], 0)[0])
+
+    def say_above(self, prompt: str, text: str) -> None:
+        self.lines.message = prompt
         print(text, flush=True)
 
     def answer(self, question: str) -> str:

@@ -1,22 +1,15 @@
-"""What came in from the players' phones, as the prompt says it."""
+"""The word `phones`: what came in from the players' phones and has to be looked at."""
 from __future__ import annotations
 
-import threading
-import time
-from typing import Iterable, List
+from typing import List
 
 from companions.event import shown_player
-from companions.lists import Match, Player, Players
+from companions.lists import Player
 from companions.names import visible
 from companions.phones.codes import FIRST_SEAT
-from companions.program import FAULTS
-from companions.prompt.session import Session, counted, ranges, tables_named
+from companions.prompt.session import Session, tables_named
 from companions.reports import (
-    OTHER,
-    STORED,
-    WAITS,
     HalfSaid,
-    Report,
     TwoScores,
     all_half_said,
     going_home,
@@ -25,94 +18,17 @@ from companions.reports import (
     words_to_store,
 )
 
-SECONDS_BETWEEN_NEWS = 1.0
 NO_PHONES = """\
 No phone has handed in. To begin, in a second window:
 event-phones {file} --at http://192.168.1.10:8080"""
 
 
-class News:
-    """What came in since it was said last. Names are asked by the prompt's own thread alone."""
-
-    def __init__(self, session: Session):
-        self.session, self.reports = session, session.reports
-        self.lock = threading.Lock()
-        self.told = len(self.reports.all)
-        self.players: Players = {}
-
-    def came(self) -> List[Report]:
-        with self.lock:
-            self.reports.more()
-            self.told = min(self.told, len(self.reports.all))
-            came, self.told = self.reports.all[self.told :], len(self.reports.all)
-            return came
-
-    def lines(self) -> List[str]:
-        """Told before a line is asked for."""
-        came = self.came()
-        if any(number not in self.players for report in came for number in numbers_in(report)):
-            self.ask_names()
-        return lines_of(came, self.players)
-
-    def ask_names(self) -> None:
-        try:
-            self.players = self.session.event.players
-        except (*FAULTS, OSError):
-            # the numbers are said then
-            pass
-
-    def go_on(self) -> None:
-        """Tells what comes in while a line is typed, above it. It ends with the prompt."""
-        while True:
-            time.sleep(SECONDS_BETWEEN_NEWS)
-            if self.session.lines.is_asking:
-                self.session.lines.say_above(lines_of(self.came(), self.players))
-
-
-def numbers_in(report: Report) -> List[int]:
-    seated = [report.first, report.second] if report.outcome == WAITS else []
-    return [*seated, *report.drops]
-
-
-def name_of(number: int, players: Players) -> str:
-    return shown_player(players[number]) if number in players else f"player {number}"
-
-
-def lines_of(came: Iterable[Report], players: Players) -> List[str]:
-    """The tables whose scores came in, in a line; and each that a phone contradicts, waits or wants."""
-    came = list(came)
-    tables = sorted({report.table for report in came if report.outcome == STORED})
-    told = []
-    if tables:
-        where = f"table{'s' if len(tables) > 1 else ''} {ranges(tables)}"
-        told.append(f"From phones: {counted(len(tables), 'score')}, {where}")
-    for report in came:
-        match = Match(report.table, report.first, report.second, report.stored)
-        if report.outcome == OTHER:
-            words = words_to_store(report.round, match, report.score)
-            told.append(
-                f"Table {report.table}: stored is {shown_score(report.stored)}, and a phone says "
-                f"{shown_score(report.score)}. If that is right: {words}"
-            )
-        if report.outcome == WAITS:
-            who = name_of(report.first if report.seat == FIRST_SEAT else report.second, players)
-            told.append(
-                f"Table {report.table}: {who} says {shown_score(report.score)}. The other seat is to say it."
-            )
-        told += [
-            f"{name_of(number, players)} wants to go home after the round: drop {number}"
-            for number in report.drops
-        ]
-    return told
-
-
 class Phones:
-    """The word `phones`: what is open."""
 
     def __init__(self, session: Session):
         self.session = session
 
-    def list_open(self, _rest: str) -> None:
+    def list_open(self) -> None:
         session, event = self.session, self.session.event
         session.reports.more()
         number, matches = len(event.rounds), event.newest()

@@ -2,6 +2,7 @@
 from __future__ import annotations
 
 import contextlib
+import difflib
 import os
 import re
 import tempfile
@@ -10,13 +11,17 @@ from typing import Optional
 from companions.copies import Copy
 from companions.event import Event, Phase, shown_player
 from companions.lists import Player
-from companions.names import compared, plain, visible
+from companions.names import compared, found_by, plain, visible
 from companions.plan import plan_of
 from companions.program import Declined, OverFile
 from companions.prompt.lines import unbroken
 from companions.prompt.session import Command, Session, counted
 from companions.rosters import Roster, path_and_codec, read_list, roster_of, tidy, why_not, written_list
 from companions.shown_names import ShownName
+from companions.stages import slot_shown
+
+# how like two words of a name are, if one may be a misspelt other
+LIKENESS = 0.7
 
 
 class Players:
@@ -37,20 +42,21 @@ class Players:
         raise Declined("\n".join(["Who of these? Take the number, as: drop 23", *listed]))
 
     def having(self, part: str) -> list[Player]:
-        return [player for player in self.session.event.players.values() if plain(part) in plain(player.name)]
+        return found_by(part, self.session.event.players.values(), lambda player: player.name)
 
     def who(self, rest: str) -> None:
-        found = self.having(rest) if rest else []
+        if not rest:
+            raise Declined("Type a part of a name, as: who an")
         players = self.session.event.players
-        if rest.isdecimal() and int(rest) in players:
-            found = [players[int(rest)]]
+        is_number = bool(re.fullmatch("[0-9]{1,9}", rest))
+        found = [players[int(rest)]] if is_number and int(rest) in players else self.having(rest)
         if not found:
-            nobody = "Nobody has that in the name. See: players"
-            raise Declined(nobody if rest else "Type a part of a name, as: who an")
+            by_name = f"Nobody has {visible(rest)} in the name"
+            raise Declined(f"{f'No player has number {rest}' if is_number else by_name}. See: players")
         for player in found:
             dropped = "D" if player.has_dropped else " "
             self.session.say(f"{player.number:4} {dropped} {visible(player.name)}{self.seat_of(player)}")
-        if len(found) == 1 and rest.isdecimal():
+        if len(found) == 1:
             self.session.say(*self.matches_of(found[0]))
 
     def matches_of(self, player: Player) -> list[str]:
@@ -60,14 +66,16 @@ class Players:
         for number, matches in enumerate(event.rounds, 1):
             found = next((match for match in matches if match.has(player.number)), None)
             if not found:
-                lines.append(f"  round {number}: not in it")
+                lines.append(f"  round {number}: did not play")
             elif found.is_bye:
                 lines.append(f"  round {number}, bye: {found.score}")
             else:
                 lines.append(f"  round {number}, table {found.place}: {event.shown(found)}")
         for stage, matches in enumerate(event.stages, 1):
-            theirs = [match for match in matches if match.has(player.number)]
-            lines += [f"  stage {stage}, slot {match.place}: {event.shown(match)}" for match in theirs]
+            for match in matches:
+                if match.has(player.number):
+                    slot = slot_shown(stage, match.place, event.first_stage)
+                    lines.append(f"  {slot}: {event.shown(match)}")
         return lines
 
     def seat_of(self, player: Player) -> str:
@@ -78,15 +86,25 @@ class Players:
         return ""
 
     def drop(self, rest: str) -> None:
+        """Of one player, or of several by their numbers."""
         session = self.session
         session.must_be_ours("drop")
         if not rest:
             raise Declined("Type a number or a name, as: drop 23, or drop Ana")
-        player = self.found(rest)
-        question = f"Drop {shown_player(player)}? Nobody who has dropped comes back."
-        # one who has dropped is refused without a question
-        if player.name and not player.has_dropped and not session.lines.says_yes(question):
-            raise Declined("Nobody was dropped.")
+        are_several = re.fullmatch(r"[0-9]{1,9}([\s,;]+[0-9]{1,9})+", rest)
+        words = re.split(r"[\s,;]+", rest) if are_several else [rest]
+        players = list(dict.fromkeys(self.found(word) for word in words))
+        # those who can't drop are refused without a question
+        can_drop = [player for player in players if player.name and not player.has_dropped]
+        if can_drop and session.event.phase is Phase.SWISS:
+            named = ", ".join(map(shown_player, can_drop))
+            if not session.lines.says_yes(f"Drop {named}? Nobody who has dropped comes back."):
+                raise Declined("Nobody was dropped.")
+        for player in players:
+            self.drop_one(player)
+
+    def drop_one(self, player: Player) -> None:
+        session = self.session
         command = Command(("drop", str(player.number)), lambda event: has_dropped(event, player.number))
         session.send_copied(command, f"drop-{player.number}")
         session.say(f"{shown_player(player)} is dropped.")
@@ -97,20 +115,30 @@ class Players:
     def enrol(self, rest: str) -> None:
         session = self.session
         session.must_be_ours("enrol")
-        alike = self.alike(rest)
+        name = tidy(rest)
+        self.must_be_one(name)
+        alike = self.alike(name)
         if alike and not session.lines.says_yes(
-            f"{shown_player(alike)} differs in capitals or accents alone. Enrol another one?"
+            f"{shown_player(alike)} looks the same, or differs in capitals only. Enrol another one?"
         ):
             raise Declined("Nobody was enrolled.")
         with unbroken(), contextlib.ExitStack() as stack:
-            words = ("enrol", rest)
-            if rest.startswith("-"):
+            words = ("enrol", name)
+            if name.startswith("-"):
                 # as a word the program takes it for an option, and in a list for a name
-                words = ("import", stack.enter_context(written_list([rest])))
-            session.send(Command(words, lambda event: event.named(rest) is not None))
-        player = session.event.named(rest)
+                words = ("import", stack.enter_context(written_list([name])))
+            session.send(Command(words, lambda event: event.named(name) is not None))
+        player = session.event.named(name)
         if player:
             session.say(f"{shown_player(player)} is enrolled.", *self.rounds_lost())
+
+    def must_be_one(self, name: str) -> None:
+        """Several names in a line would become one player."""
+        parts = [tidy(part) for part in re.split("[,;]", name)]
+        if len(parts) < 2 or not all(parts) or self.session.event.named(name):
+            return
+        if not self.session.lines.says_yes(f"Is {visible(name)} one player, whose name has a comma?"):
+            raise Declined(f"Nobody was enrolled. Type one name a line, as: enrol {visible(parts[0])}")
 
     def alike(self, name: str) -> Optional[Player]:
         """A player whose name looks the same and is written by other bytes."""
@@ -196,24 +224,29 @@ class Players:
         if not found:
             raise Declined("Type a number and the right name, as: rename 4 Peter Meyer")
         number, name = int(found[1]), tidy(found[2])
-        player = session.event.enrolled.get(number)
+        player = session.event.players.get(number)
         if not player:
-            raise Declined("No player has this number. See: players")
+            raise Declined(f"No player has number {number}. See: players")
         others = [other for other in session.event.players.values() if other.number != number]
         same = next((other for other in others if compared(other.name) == compared(name)), None)
-        if name == player.name:
+        enrolled = session.event.enrolled[number].name
+        if name == enrolled:
             same = None
         fault = why_not(name) or (
             f"{shown_player(same)} has this name. Add what tells the two apart." if same else ""
         )
         if fault:
             raise Declined(fault)
+        if not have_a_word_in_common(player.name, name) and not session.lines.says_yes(
+            f"Number {number} is {visible(player.name)}. Is {visible(name)} the right name?"
+        ):
+            raise Declined("Nobody was renamed. Whose number is it? See: who, as: who an")
         if session.event.phase is Phase.ENROLLING:
             self.make_again(number, name)
         else:
-            session.names.keep(ShownName(number, player.name, name))
+            session.names.keep(ShownName(number, enrolled, name))
             session.look_again()
-            session.say(f"{shown_player(session.event.players[number])} is shown so from now on.")
+            session.say(f"{shown_player(player)} is shown as {visible(name)} from now on.")
             session.say("The program's own lists keep the name that was enrolled.")
 
     def make_again(self, number: int, name: str) -> None:
@@ -224,19 +257,36 @@ class Players:
         plan = plan_of(session.file, session.source.turn)
         if not plan or not isinstance(session.source, OverFile):
             raise Declined("Rounds and cut could not be read, so the event can't be made again. See: undo")
-        players = session.event.enrolled.values()
-        names = [name if player.number == number else player.name for player in players]
         with unbroken(), session.source.turn.taken(), tempfile.TemporaryDirectory() as room:
+            # another window may have enrolled somebody while a question stood
+            session.look_again()
+            players_by_number = session.event.enrolled
+            names = [name if it.number == number else it.name for it in players_by_number.values()]
+            if session.event.phase is not Phase.ENROLLING:
+                raise Declined("The rounds were begun in another window. Type the line again.")
             made = OverFile(session.source.program, os.path.join(room, "new.event"))
             made.ask("init", plan.name, str(plan.rounds), str(plan.cut))
             with written_list(names) as written:
                 made.ask("import", written)
             if [player.name for player in made.players().values()] != names:
                 raise Declined("The event could not be made again with this name. It stays as it is.")
+            wrong = players_by_number[number]
             away = session.copies.put_in_place(Copy(0, "", "", made.file))
+        session.has_moved = True
         session.look_again()
-        session.say(f"{shown_player(session.event.enrolled[number])} is enrolled.")
+        session.say(f"{shown_player(wrong)} is {visible(name)} now.")
         session.say(f"The event with the wrong name is {away} now.")
+
+
+def have_a_word_in_common(one: str, other: str) -> bool:
+    """Or nearly so, as Petr and Peter have, or Cy and Cyril."""
+    pairs = [(word, beside) for word in plain(one).split() for beside in plain(other).split()]
+    return any(
+        word.startswith(beside)
+        or beside.startswith(word)
+        or difflib.SequenceMatcher(None, word, beside).ratio() >= LIKENESS
+        for word, beside in pairs
+    )
 
 
 def has_dropped(event: Event, number: int) -> bool:

@@ -3,13 +3,24 @@ from __future__ import annotations
 
 import re
 import secrets
+import tempfile
 from typing import Optional
 
-from companions.checking import differing_tables, opened, paired_copy
+from companions.checking import (
+    copies_before,
+    differing_tables,
+    keys_of,
+    nearest,
+    opened,
+    paired_copy,
+    standings_after,
+)
+from companions.clock import kept_clock, start_clock, stop_clock
 from companions.copies import Copy
 from companions.program import FAULTS, Declined, Refusal, Refused
-from companions.prompt.lines import numbers_in, score_in, unbroken
-from companions.prompt.session import Command, Session, ranges, tables_named
+from companions.prompt.lines import minutes_in, minutes_of, numbers_in, score_in, unbroken, with_score
+from companions.prompt.session import Command, Session, begun, ranges, tables_named
+from companions.stages import slot_shown, words_of_slot
 
 
 class Rounds:
@@ -27,35 +38,53 @@ class Rounds:
                 raise Declined(f"{self.session.file}.keys has no key for round {number}. A new one: pair")
             return key, False
         if word not in ("", "new"):
-            raise Declined("As: pair, pair again, pair new, or pair and a key of 64 hexadecimal digits")
+            raise Declined(
+                "As: pair, pair 50, pair again, pair new, or pair and a key of 64 hexadecimal digits"
+            )
         return secrets.token_hex(32), True
 
     def pair(self, rest: str) -> None:
         session = self.session
         session.must_be_ours("pair")
+        word, minutes = word_and_minutes(rest)
         if not session.goes_on_in_doubt("Pair"):
             raise Declined("Nothing was paired.")
-        with unbroken(), session.source.turn.taken():
-            # another prompt may have paired since this line was typed
-            session.look_again()
-            number = len(session.event.rounds) + 1
-            key, is_new = self.key_for(number, rest.strip())
-            copy = session.copies.make(f"pair-{number}")
-            try:
-                if is_new:
-                    session.keys.append(number, key)
-            except OSError:
-                session.copies.remove(copy)
-                raise
-            try:
-                self.send_pair(number, key, copy)
-            except FAULTS as fault:
-                if is_new and self.is_unused(number, fault):
-                    session.keys.mark_unused(number, key)
-                raise
-            differing = self.differing(copy, number, key)
+        with unbroken():
+            with session.source.turn.taken():
+                # another prompt may have paired since this line was typed
+                session.look_again()
+                number = len(session.event.rounds) + 1
+                key, is_new = self.key_for(number, word)
+                copy = session.copies.make(f"pair-{number}")
+                try:
+                    if is_new:
+                        session.keys.append(number, key)
+                except OSError:
+                    session.copies.remove(copy)
+                    raise
+                try:
+                    self.send_pair(number, key, copy)
+                except FAULTS as fault:
+                    if is_new and self.is_unused(number, fault):
+                        session.keys.mark_unused(number, key)
+                    raise
+                differing = self.differing(copy, number, key)
+            session.copy_to_second_place(copy)
         session.show("slips", str(number))
         self.say_key(number, key, differing)
+        session.show_now()
+        session.has_moved = True
+        self.set_clock(minutes)
+
+    def set_clock(self, minutes: Optional[int]) -> None:
+        """The clock of the round before ends, and one of this round starts if its minutes were typed."""
+        session, before = self.session, kept_clock(self.session.file)
+        stop_clock(session.file)
+        if minutes is not None:
+            start_clock(session.file, minutes)
+            session.say(f"The clock runs: {minutes} min")
+        elif before:
+            session.say(f"The clock of the round before is off. For this one: clock {before.minutes}")
 
     def send_pair(self, number: int, key: str, copy: Copy) -> None:
         session = self.session
@@ -112,34 +141,77 @@ class Rounds:
         number = int(numbers_in(rest or str(len(session.event.rounds)), 1, 1, "check 3")[0])
         if not 1 <= number <= len(session.event.rounds):
             raise Declined(f"Round {number} is not paired. See: where")
-        copies = [copy for copy in session.copies.all() if copy.what == f"before-pair-{number}"]
-        key = session.keys.last(number)
-        if not copies or not key:
+        copies, keys = copies_before(session.copies, number), keys_of(session.keys, number)
+        if not copies or not keys:
             missing = "no copy was made before it" if not copies else f"{session.file}.keys has no key of it"
             raise Declined(f"Round {number} can't be checked here: {missing}. See: scripts/check, in GUIDE")
-        due = paired_copy(session.source, copies[-1], number, key)
-        differing = differing_tables(session.event.rounds[number - 1], due)
-        if differing:
+        found = nearest(session.source, copies, keys, number, session.event.rounds[number - 1])
+        if not found:
+            raise Declined(f"Round {number} can't be checked here: none of its copies pairs it. See: back")
+        if found.differing:
             raise Declined(
-                f"Round {number} is not what the copy made before it gives by the key. These tables\n"
-                f"differ: {ranges(differing)}. It was paired by another key, or from another copy,\n"
-                f"which back lists. The key:\n  {key}"
+                f"Round {number} is not what a copy made before it gives by a key of it.\n"
+                f"With the newest ones these tables differ: {ranges(found.differing)}. It was\n"
+                f"paired by another key, or from another copy, which back lists. The key:\n  {found.key}"
             )
         session.say(
-            f"Round {number} is what its key gives, from the copy that was made before it:", f"  {key}"
+            f"Round {number} is what its key gives, from the copy that was made before it:", f"  {found.key}"
         )
 
     def show_round(self, rest: str) -> None:
         words = numbers_in(rest, 0, 1, "round 3")
         self.session.show("slips", words[0] if words else str(len(self.session.event.rounds)))
+        if not words:
+            self.session.show_now()
 
-    def show_keys(self, _rest: str) -> None:
+    def standings(self, rest: str) -> None:
+        """The standings; the first lines of them; or those after an earlier round."""
+        session = self.session
+        found = re.fullmatch(r"(top|first|after|round|r)?\s*([0-9]{1,3})?", rest, re.I)
+        if not found or (found[1] and not found[2]):
+            raise Declined("As: standings, standings 8 for the first eight, or standings after 3")
+        if not found[2]:
+            session.show("standings")
+            return
+        word, count = (found[1] or "").lower(), int(found[2])
+        is_round = word not in ("top", "first") and (word or 1 <= count <= len(session.event.rounds))
+        if is_round:
+            self.standings_after(count)
+        else:
+            self.first_standings(count)
+
+    def first_standings(self, count: int) -> None:
+        session = self.session
+        heading, *lines = session.with_names(session.source.text("standings")).splitlines(keepends=True)
+        session.say(f"The first {min(count, len(lines))} of {len(lines)}:")
+        session.say_as_it_is("".join([heading, *lines[:count]]))
+
+    def standings_after(self, number: int) -> None:
+        """They are kept in the copy that was made before the next round."""
+        session = self.session
+        session.must_be_ours("standings after")
+        paired, complete = len(session.event.rounds), session.event.complete_rounds()
+        if not 1 <= number <= complete:
+            raise Declined(f"Round {number} is not complete. Complete are: {complete}. See: where")
+        if number == paired:
+            session.say(f"After round {number}:")
+            session.show("standings")
+            return
+        found = standings_after(session.source, session.copies, number, session.event.rounds)
+        if not found:
+            raise Declined(f"No copy from before round {number + 1} is there, so they can't be shown.")
+        copy, text = found
+        when = f"as they stood when round {number + 1} was paired (copy {copy.number})"
+        session.say(f"After round {number}, {when}:")
+        session.say_as_it_is(session.with_names(text))
+
+    def show_keys(self) -> None:
         lines = [f"round {number} {key}" for number, key in self.session.keys.all()]
         self.session.say(*(lines or ["There is no key yet. pair makes one."]))
 
     # ---- the playoff
 
-    def cut(self, _rest: str) -> None:
+    def cut(self) -> None:
         session = self.session
         session.must_be_ours("cut")
         if not session.goes_on_in_doubt("Cut"):
@@ -150,35 +222,64 @@ class Rounds:
         if not session.lines.says_yes("Begin it? After that no result of the rounds is entered or fixed."):
             raise Declined("The playoff was not begun.")
         session.send_copied(Command(("cut",), lambda event: bool(event.stages)), "cut")
+        stop_clock(session.file)
         session.show("bracket")
+        session.show_now()
+        session.has_moved = True
 
     def bracket_of_a_cut(self) -> str:
         """Who is in, and who meets whom: the program cuts a copy. What it refuses there it would refuse here.
         """
         session = self.session
-        with unbroken():
-            copy = session.copies.make("cut")
-        try:
+        with unbroken(), tempfile.TemporaryDirectory() as room:
+            copy = session.copies.made(Copy(0, "", "", f"{room}/cut.event"))
             with opened(session.source, copy) as program:
                 program.ask("cut")
                 return program.read("bracket")
-        finally:
-            session.copies.remove(copy)
 
     def play(self, rest: str) -> None:
         session = self.session
         session.must_be_ours("play")
-        stage_word, slot, *counts = numbers_in(rest, 4, 5, "play 1 2 2 1")
-        stage, score = int(stage_word), score_in(counts)
+        stage, slot, counts = self.slot_and_counts(rest)
+        score, first = score_in(counts), session.event.first_stage
         shown, match = "-".join(score), session.event.slot(stage, slot)
-        if match:
-            session.say(f"Stage {stage}, slot {slot}: {session.event.shown(match, shown)}")
-        words = ("playoff", stage_word, slot, *score)
+        named = f"{slot_shown(stage, int(slot), first)}: {session.event.shown(match, shown)}" if match else ""
+        if re.match(r"f(inal)?\s+1\s", rest, re.I) and len(counts) == 3:
+            # the 1 may be meant as the place of the match
+            if not session.lines.says_yes(f"{begun(named)}. Is this the score?"):
+                raise Declined("Nothing was stored. As: play final 2 0")
+        words = ("playoff", str(stage), slot, *score)
         command = Command(words, lambda event: event.score_in(stage, slot) == shown)
         try:
             session.send_copied(command, f"play-{stage}-{slot}")
         except Refused as refused:
+            if named:
+                session.say(f"Not stored: {named}")
             if refused.number == Refusal.ALREADY_REPORTED and match:
                 refused.more = f"Stored is {match.score}. A score of the playoff is not corrected. See: back"
             raise
-        session.say(session.next_step())
+        comes_next = session.next_step()
+        session.say(begun(named))
+        session.say_filled(begun(comes_next))
+
+    def slot_and_counts(self, rest: str) -> tuple[int, str, list[str]]:
+        """Of `qf2 2 1`, `sf 1 2 0`, `final 2 1`, or by numbers as the program has them: `1 2 2 1`."""
+        session = self.session
+        named = words_of_slot(rest, session.event.first_stage)
+        if not named:
+            stage_word, slot, *counts = numbers_in(rest, 4, 5, "play qf2 2 1, or play final 2 0")
+            return int(stage_word), slot, counts
+        stage, place, score = named
+        counts = numbers_in(with_score(f"0 {score}"), 3, 4, "play qf2 2 1, or play final 2 0")[1:]
+        if session.event.stages and stage < 1:
+            first = slot_shown(1, 1, session.event.first_stage)
+            raise Declined(f"This playoff begins with the {first.split()[0]}. See: bracket")
+        return max(stage, 1), str(place), counts
+
+
+def word_and_minutes(rest: str) -> tuple[str, Optional[int]]:
+    """What follows `pair`: again, new or a key; and the minutes of a clock, as in `pair again 50`."""
+    word, _, last = rest.strip().rpartition(" ")
+    if re.fullmatch("[0-9A-Fa-f]{64}", last) or minutes_in(last) is None:
+        return rest.strip(), None
+    return word, minutes_of(last, "pair 50")

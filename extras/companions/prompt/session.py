@@ -1,6 +1,8 @@
 """What the words of the prompt share: the event, what is said of it, and how commands are sent."""
 from __future__ import annotations
 
+import contextlib
+import math
 import os
 import textwrap
 import time
@@ -9,7 +11,7 @@ from typing import Callable, Optional
 
 from companions.copies import Copies, Copy
 from companions.doubts import Doubt, Doubts
-from companions.event import Event, Phase, shown_player
+from companions.event import Event, Phase, Progress, shown_player
 from companions.keys import Keys
 from companions.lists import Matches, Unreadable
 from companions.names import visible
@@ -30,14 +32,19 @@ from companions.prompt.texts import (
     BAD_SETUP,
     LATE_IN_VERSION_1,
     MISSING,
+    NOBODY_DROPS,
     NOT_SWISS,
     REFUSALS,
 )
 from companions.reports import Reports, TwoScores, settle, shown_score, two_scores
+from companions.second_place import SecondPlace
 from companions.shown_names import ShownNames, with_shown_names
-from companions.title import kept_title
+from companions.stages import slot_shown, slot_typed
+from companions.title import event_name, kept_title
 
 WIDTH = 79
+# who types when something is told has not read it by then
+SECONDS_TO_READ = 3
 
 
 @dataclass(frozen=True)
@@ -52,13 +59,72 @@ class Session:
     def __init__(self, source: Source, file: str, lines: Input):
         self.source, self.file, self.lines = source, file, lines
         self.keys, self.copies, self.doubts = Keys(file), Copies(file, source.turn), Doubts(file)
-        self.names, self.reports = ShownNames(file), Reports(file)
+        self.names, self.reports, self.second = ShownNames(file), Reports(file), SecondPlace(file)
         self.event = Event(source, file)
         self.has_failed = False
+        # what the prompt has shown of the event, when, and what it knows; and whether it went on itself since
+        self.shown, self.shown_at, self.known = Progress(), -math.inf, Progress()
+        self.has_moved = False
+        # the round in which it was said that no second copy can be made
+        self.round_without_copy: Optional[int] = None
 
     def look_again(self) -> None:
         """What is asked from here on is asked of the program as it is now."""
         self.event = Event(self.source, self.file)
+
+    # ---- which round the prompt has shown
+
+    def show_progress(self, now: Progress, at: float = -math.inf) -> None:
+        self.shown, self.shown_at, self.known = now, at, now
+
+    def show_now(self) -> None:
+        """The prompt has just said in which round the event is."""
+        self.show_progress(self.event.progress)
+
+    def is_shown(self, now: Progress) -> bool:
+        """Whether a line that is typed now is typed by somebody who could see this round."""
+        return now == self.shown and time.monotonic() > self.shown_at + SECONDS_TO_READ
+
+    def moved_by_others(self) -> list[str]:
+        """Told before a line is asked for: where another window has brought the event."""
+        if not self.lines.is_terminal or self.source.is_served:
+            return []
+        self.look_again()
+        try:
+            now = self.event.progress
+        except (*FAULTS, OSError):
+            return []
+        told = [] if self.has_moved or now == self.known else self.differences(now)
+        self.has_moved, self.known = False, now
+        if not self.lines.is_ahead:
+            self.show_progress(now)
+        return told
+
+    def differences(self, now: Progress) -> list[str]:
+        """Between what was told last and what is there now."""
+        before = self.known
+        if now.inode != before.inode:
+            here = f"round {now.number} now. " if now.number else ""
+            return [f"Another window put another file in place, by back or rename: {here}See: where"]
+        if now.is_cut and not before.is_cut:
+            return ["The playoff was begun in another window. See: bracket"]
+        if now.number > before.number:
+            return [f"Round {now.number} was paired{self.time_of_pairing(now.number)} in another window."]
+        return [] if now == before else ["The event was changed in another window. See: where"]
+
+    def time_of_pairing(self, number: int) -> str:
+        """As: , at 10:43, - if the copy that was made before it is there."""
+        made = [copy for copy in self.copies.all() if copy.what == f"before-pair-{number}"]
+        return f", at {made[-1].when[9:11]}:{made[-1].when[11:13]}," if made else ""
+
+    @property
+    def first_stage(self) -> int:
+        """How many matches the first stage of the playoff has, or 0 if that isn't known."""
+        with contextlib.suppress(*FAULTS):
+            if self.event.stages:
+                return self.event.first_stage
+        plan = None if self.source.is_served else plan_of(self.file, self.source.turn)
+        return plan.cut // 2 if plan else 0
 
     # ---- what is said
 
@@ -94,15 +160,19 @@ class Session:
         self.has_failed = True
         if refused.printed:
             self.say(refused.printed.rstrip("\n"))
-        self.say(str(refused), self.case_of(refused, word) or REFUSALS.get(refused.number, "See: help"))
+        self.say(self.case_of(refused, word) or REFUSALS.get(refused.number, "See: help"))
         if refused.more:
             self.say(refused.more)
+        self.say(f"({refused})")
 
     def case_of(self, refused: Refused, word: str) -> str:
         if refused.number == Refusal.NO_EVENT and self.is_missing():
             return MISSING
+        if refused.number == Refusal.STORE:
+            return why_not_used(self.file)
         if refused.number == Refusal.NOT_SWISS:
-            return NOT_SWISS.get(self.phase_or_none(), "")
+            phase = self.phase_or_none()
+            return {**NOT_SWISS, **(NOBODY_DROPS if word == "drop" else {})}.get(phase, "")
         if refused.number == Refusal.BAD_SCORE:
             return BAD_SCORE_OF_PLAYOFF if word in ("play", "playoff") else ""
         if refused.number == Refusal.BAD_SETUP:
@@ -121,13 +191,20 @@ class Session:
         """
         return not os.path.exists(self.file) and bool(self.copies.all())
 
+    def is_new(self) -> bool:
+        """Whether nothing is there yet, so that an event may be made."""
+        return not os.path.exists(self.file) and not self.is_missing()
+
     def title(self) -> str:
-        kept = visible(kept_title(self.file))
+        """The event's name and the file's. While `serve` holds the file, only FILE.title has the name."""
+        served = self.source.is_served
+        kept = visible(kept_title(self.file) if served else event_name(self.file, self.source.turn))
         return f"{kept} ({self.file})" if kept else self.file
 
     def say_where(self) -> None:
         self.look_again()
         self.say_filled(f"{self.title()}, {self.event.phase.value}: {self.next_step()}")
+        self.show_now()
         plan = None if self.source.is_served else plan_of(self.file, self.source.turn)
         if plan:
             self.say(plan.shown(len(self.event.rounds) if self.event.phase is Phase.SWISS else 0))
@@ -220,8 +297,19 @@ class Session:
 
     def send_copied(self, command: Command, what: str) -> None:
         """The same of what nothing takes back: the event is copied first, and nobody comes in between."""
-        with unbroken(), self.source.turn.taken():
-            self.send(command, self.copies.make(what))
+        with unbroken():
+            with self.source.turn.taken():
+                copy = self.copies.make(what)
+                self.send(command, copy)
+            self.copy_to_second_place(copy)
+
+    def copy_to_second_place(self, copy: Copy) -> None:
+        """Each copy goes to the second place too, if there is one. If it can't, that is said once a round."""
+        fault = self.second.copy(copy)
+        if fault and self.round_without_copy != self.known.number:
+            self.round_without_copy = self.known.number
+            self.say(f"No copy was made at {visible(self.second.folder())}: {fault}.")
+            self.say("The copy beside the event is there. Once the disk is back: copy")
 
     def must_be_ours(self, name: str) -> None:
         """What asks back or copies is turned down first where `serve` holds the file."""
@@ -239,7 +327,7 @@ def next_step(event: Event) -> str:
         so_far = counted(len(event.players), "player")
         return f"{so_far} so far. Next: enrol Ana Lima, import names.csv, or start"
     if event.phase is Phase.FINISHED and event.champion:
-        return f"the champion is {shown_player(event.champion)}"
+        return f"the champion is {shown_player(event.champion)}. See: final"
     if event.phase is Phase.PLAYOFF:
         return next_in_playoff(event)
     if not number:
@@ -259,14 +347,35 @@ def next_in_playoff(event: Event) -> str:
     ]
     if not still_open:
         return "`serve` hands out no bracket"
-    told = ", ".join(f"{stage} {slot}" for stage, slot in still_open)
-    stage, slot = still_open[0]
-    return f"open by stage and slot: {told}. Next: play {stage} {slot} 2 0"
+    first = event.first_stage
+    told = ", ".join(slot_shown(stage, slot, first) for stage, slot in still_open)
+    return f"open: {told}. Next: play {slot_typed(*still_open[0], first)} 2 0"
 
 
 def tables_named(matches: Matches) -> str:
     """The tables that are open, as: 5 tables open: 4, 7-10."""
     return f"{counted(len(matches), 'table')} open: {ranges([match.place for match in matches])}"
+
+
+def prompt_at(progress: Progress) -> str:
+    if progress.is_cut:
+        return "playoff> "
+    return f"r{progress.number}> " if progress.number else "desk> "
+
+
+def why_not_used(file: str) -> str:
+    """Why a file can't be read or written, as far as this machine tells; or nothing."""
+    folder = os.path.dirname(os.path.abspath(file))
+    if not os.path.isdir(folder):
+        return f"There is no folder {visible(folder)}. Make it, or take another FILE."
+    if os.path.isdir(file):
+        return f"{visible(file)} is a folder, and no event. Name a file in it: event-desk FILE"
+    if not os.path.exists(file) and not os.access(folder, os.W_OK):
+        yours = "Take a FILE in a folder of yours, as: event-desk ~/friday.event"
+        return f"You may not write into the folder {visible(folder)}.\n{yours}"
+    if os.path.exists(file) and not os.access(file, os.R_OK | os.W_OK):
+        return f"You may not write {visible(file)}: `ls -l` shows whose it is."
+    return ""
 
 
 def ranges(numbers: list[int]) -> str:
@@ -278,6 +387,11 @@ def ranges(numbers: list[int]) -> str:
         else:
             runs.append([number])
     return ", ".join(f"{run[0]}-{run[-1]}" if len(run) > 2 else ", ".join(map(str, run)) for run in runs)
+
+
+def begun(text: str) -> str:
+    """As the beginning of a line."""
+    return text[:1].upper() + text[1:]
 
 
 def counted(count: int, what: str) -> str:

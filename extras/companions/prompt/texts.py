@@ -7,22 +7,56 @@ from companions.event import Phase
 
 COMMANDS = """\
   17 2 1             the result of table 17: games won by the player who is
-                     named first, and by the second; 17 2-1 and 17,2,1 will do
-  17 2 1 1           with a drawn game. An intended draw: 17 0 0 3
+                     named first, and by the second; 17 2-1 and 17 21 will do
+  17 2 1 1           with a drawn game. An intended draw: 17 id
   17 2 1 drop 12     and player 12 drops, by the same slip; it asks back
   open, where        the tables that have no score yet; where the event is
-  fix 1 17 0 2       replaces the score of table 17 of round 1
+  fix 17 0 2         replaces the score of table 17; of round 1: fix 1 17 0 2
   doubt 9            keeps in mind that the score of table 9 is wrong, until fix
-  pair               copies the event, and pairs the next round by a new key
+  pair, pair 50      copies the event, and pairs the next round by a new key;
+                     starts the clock for 50 minutes too
   drop 23, drop Ana  drops a player; it asks back
   who an, who 12     finds players by a part of the name, or by the number
-  players, standings, round, round 3
-                     lists the players by number or by rank, or a round's tables
+  players, round, round 3
+                     lists the players by number, or a round's tables
+  standings, standings 8, standings after 3
+                     all of them, the first eight, those after round 3
   cut, bracket       seeds the playoff by the standings; shows it
-  play 1 2 2 1       a score of the playoff: stage 1, slot 2, won by 2 to 1
-  enrol Ana Lima     enrols a player, also as a latecomer after the start
+  enrol Ana Lima     enrols a latecomer, who plays from the next round on
+  print, print slips sheets for the wall, or of one kind
   back, undo         copies to go on from; what to do instead of an undo
-  help all, quit     all commands, also those for the beginning of an evening
+  help all, quit     all commands
+"""
+
+BEGINNING = """\
+  init NAME ROUNDS CUT makes the event: its name, how many rounds, and how many
+                       go on to the playoff, as: init Friday Night 6 8
+  enrol Ana Lima       enrols a player
+  import names.csv     enrols the players of a list; it shows them and asks back
+  rename 4 Ana Lima    gives player 4 the right name
+  players, who an      lists the players; finds some by a part of the name
+  print seats          a sheet for the players' meeting
+  start                begins the rounds, once everybody is there
+  pair, pair 50        then: pairs the first round; starts the clock too
+  copy, copy PATH      copies the event now; to a folder, as of a stick, too
+  title Friday Night   the heading of the sheets
+  help all, quit       all commands
+"""
+
+PLAYOFF = """\
+  play qf2 2 1       the score of quarterfinal 2: games won by the player who is
+                     named first, and by the second. It can't be corrected
+  play sf1 2 0, play final 2 1
+                     of a semifinal, and of the final
+  bracket, open      the playoff; its matches that have no score yet
+  where              where the event is
+  final              the final ranking, once there is a champion
+  who an, who 12     finds players by a part of the name, or by the number
+  standings          those after the last round
+  print bracket, print final
+                     sheets for the wall
+  back, undo         copies to go on from; what to do instead of an undo
+  help all, quit     all commands
 """
 
 MORE_COMMANDS = """\
@@ -34,14 +68,20 @@ MORE_COMMANDS = """\
   start                begins the rounds
   pair again           pairs by the key that FILE.keys has for it; see back
   copy                 copies the event now, and checks the copy
+  copy /media/stick    the same to that folder too, and from now on each copy;
+                       copy off ends it
   back 3               goes on from copy 3; it asks back
+  play qf2 2 1         the score of quarterfinal 2; sf1 is a semifinal, and the
+                       final is: play final 2 0
   keys, check 3        the keys; whether round 3 is the one that its key gives
   export standings     players, results, standings or playoff as CSV
   export playoff p.csv the same into a new file
   final                the final ranking, once there is a champion
+  print slips          writes FILE.sheets.html, and opens it where it can
   phones               what phones handed in that has to be looked at
   title Friday Night   the heading of the sheets
   clock 50, clock off  starts the clock on the board for 50 minutes; stops it
+  clock +3             gives three minutes back
   migrate              moves the file of an older program to newer tables
 
 The command line's words are taken too, without FILE: result 3 17 2 1 0,
@@ -53,9 +93,9 @@ ALL_COMMANDS = COMMANDS + MORE_COMMANDS
 
 UNDO = """\
 There is no undo: what was answered ok is in the file, and stays.
-  A result:    fix ROUND TABLE X Y, as: fix 1 17 0 2
+  A result:    fix TABLE X Y, as: fix 17 0 2; of round 1: fix 1 17 0 2
   A result that belongs to another table:
-               doubt 9, until the right one is there: fix 1 9 2 1
+               doubt 9, until the right one is there: fix 9 2 1
   A drop, a pairing, the cut, a score of the playoff:
                go on from the copy that was made before it: back
   A player who doesn't play: is dropped after the start
@@ -70,13 +110,19 @@ the file was moved. Go on from a copy: back"""
 # in place of the words of refusal 6, by the phase
 NOT_SWISS: Dict[Optional[Phase], str] = {
     Phase.ENROLLING: "The Swiss rounds have not begun. Once all players are enrolled: start",
-    Phase.PLAYOFF: "The Swiss rounds are over, and the playoff has begun. Its scores: play 1 1 2 0",
-    Phase.FINISHED: "The event is over: the playoff has its champion. See: bracket",
+    Phase.PLAYOFF: "The Swiss rounds are over, and the playoff has begun. See: open",
+    Phase.FINISHED: "The event is over: the playoff has its champion. See: final",
+}
+# the same, where somebody was to drop
+NOBODY_DROPS: Dict[Optional[Phase], str] = {
+    Phase.ENROLLING: "Nobody drops before the start. If somebody won't play: start, and then drop 12",
+    Phase.PLAYOFF: "The playoff has begun, and nobody drops any more. If one leaves, the other one\n"
+    "wins: play qf2 2 0",
 }
 # in place of the words of refusal 13, of a match of the playoff
 BAD_SCORE_OF_PLAYOFF = """\
 No match of the playoff ends so. One player wins more games than the other, and
-3 at most; at most 3 are drawn: play 1 2 2 1"""
+3 at most; at most 3 are drawn: play qf2 2 1"""
 # in place of the words of refusal 30
 BAD_SETUP = """\
 A new event has a name of 1 to 60 bytes, 1 to 12 rounds, and a cut of 0, 2, 4
@@ -93,7 +139,7 @@ REFUSALS = {
     4: "The event has started; for enrol, the playoff has begun. See: where",
     5: "It takes two players who have not dropped. Enrol them: enrol Ana Lima",
     6: "The Swiss rounds have not begun, or the playoff has.\n"
-    "Before the rounds: start. In the playoff: play 1 1 2 0",
+    "Before the rounds: start. In the playoff: play qf2 2 0",
     7: "Another round is next. See: where",
     8: "A table of the newest round has no score. Enter it, and then: pair",
     9: "All rounds are paired, and nobody enrols any more.\n"
@@ -117,8 +163,8 @@ REFUSALS = {
     24: "The machine had no memory left. Close something, see: where, and type the line\n"
     "again if it is not there.",
     25: "The file was not read or written. Most often another program has it open: end\n"
-    "it, see: where, and type the line again if it is not there. Where `serve` holds\n"
-    "the file, end this with Ctrl-D and give its port: event-desk FILE --port 8080",
+    "it, see: where, and type the line again if it is not there. If `serve` holds the\n"
+    "file, end this with Ctrl-D and give its port: event-desk FILE --port 8080",
     26: "A write failed before. End `serve` by Ctrl-C in its window, serve again, and\ntype the line again.",
     27: "There is no event in the file. Look at the path, or make one:\ninit Friday Night 3 0",
     28: "The file has an event already. Take another FILE: end this with Ctrl-D.",
