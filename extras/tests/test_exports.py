@@ -39,9 +39,10 @@ def test_playoff(dice):
 
 
 def others_ranked(event, cut):
-    """The ranks of those who were not in the playoff: behind the cut, and behind each of them who is better."""
+    """The ranks of those who were not in the playoff: after the cut, and after each of them who is better."""
     merits = event.merits()
-    others = [merits[it] for it in merits if it not in {one for match in event.stages[0] for one in match[:2]}]
+    seeded = {one for match in event.stages[0] for one in match[:2]}
+    others = [merits[it] for it in merits if it not in seeded]
     return [cut + 1 + sum(other > merit for other in others) for merit in others]
 
 

@@ -76,8 +76,8 @@ def test_who_is_found(typed, name):
 
 
 NAMES = [
-    "Paul Hoffmann", "Lea Annis", "Anna Smith", "Eva Neumann", "Holm Ann", "Ann", "Annika Holm", "Pat O'Brien",
-    "-x",
+    "Paul Hoffmann", "Lea Annis", "Anna Smith", "Eva Neumann", "Holm Ann", "Ann", "Annika Holm",
+    "Pat O'Brien", "-x",
 ]
 
 

@@ -251,7 +251,8 @@ def test_the_clock_stands_on_each_page(room):
 
 def test_the_event_s_name_is_asked_once_for_each_picture(room, monkeypatch):
     asked = []
-    monkeypatch.setattr("companions.title.plan_of", lambda *_: asked.append(1) or Plan("Friday <Night>", 3, 0))
+    plan = Plan("Friday <Night>", 3, 0)
+    monkeypatch.setattr("companions.title.plan_of", lambda *_: asked.append(1) or plan)
     room.looking.title = None
     room.looking.keep(*room.looking.read_all(Event(FromModel(room.event), room.file)))
     for target in ("/", "/pairings", "/standings", "/board", room.target(1)):

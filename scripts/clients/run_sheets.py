@@ -25,6 +25,7 @@ from scripts.models.plain_event import Event
 from scripts.models.plain_page import (
     Page,
     bracket_due,
+    final_due,
     heading,
     name_rows,
     parts_due,
@@ -108,6 +109,8 @@ def check_page(name, page, event, number, title, is_board=False, has_bracket=Tru
         check(f"{name}, the ranks and their bars", shown_standings(parts["standings"]), (due, [it[5:] for it in due]))
     if "bracket" in parts:
         check(f"{name}, bracket", (heading(parts["bracket"]), shown_bracket(parts["bracket"])), ((title, "Playoff"), bracket_due(event)))
+    if "final" in parts:
+        check(f"{name}, final ranking", (heading(parts["final"]), shown_rows(parts["final"])), ((title, "Final ranking"), final_due(event)))
 
 
 def run_random(room, dice, count):
@@ -385,7 +388,7 @@ class Paper:
 
     def kinds(self):
         """Which part each sheet is of, by its heading; slips have none, and have signatures."""
-        names = {"bytable": "tables", "byname": "names", "Standingsafter": "standings", "Playoff": "bracket"}
+        names = {"bytable": "tables", "byname": "names", "Standingsafter": "standings", "Playoff": "bracket", "Finalranking": "final"}
         found = []
         for text in map(joined, self.sheets):
             found.append("slips" if "signature" in text else next((names[it] for it in names if it in text[:80]), "?"))
@@ -437,6 +440,9 @@ def check_paper(name, paper, event, size):
         found = [[f"Round{number}Table{table}" for table in re.findall(r"\bTable (\d+)\b", text)] for text in texts]
         check(f"{name}, slips, in cutting order", found, order)
         check(f"{name}, slips, few sheets", len(of["slips"]) <= len(slips) // 4 + 1, True)
+    if "final" in of:
+        missing = [it for it in final_due(event) if not any(joined("".join(it)) in text for text in of["final"])]
+        check(f"{name}, final ranking, each line whole on one sheet", missing, [])
     if "bracket" in of:
         seats = bracket_due(event)[1]
         check(f"{name}, the bracket on one sheet", [it for it in seats if joined(it[1]) not in of["bracket"][0]] + of["bracket"][1:], [])

@@ -5,6 +5,8 @@ import html.parser
 import re
 import unicodedata
 
+from scripts.models.plain_event import FINISHED, winner
+
 VOID = {"meta", "col"}
 STAGES = {1: "Final", 2: "Semifinals", 4: "Quarterfinals"}
 
@@ -224,6 +226,21 @@ def bracket_due(event):
     return stages, seats, sum(sizes) + len(stages) - len(sizes), even
 
 
+def final_due(event):
+    """The last standing first. Who went out in one stage shares a rank; of the others, those share one whom the standings rank so."""
+    beaten = [[a if winner(match) == b else b for match in matches for a, b in [match[:2]]] for matches in event.stages]
+    merits = event.merits()
+    tied = {}
+    for it in merits:
+        if not any(it in match[:2] for match in event.stages[0]):
+            tied.setdefault(merits[it], []).append(it)
+    found = []
+    for group in [[winner(event.stages[-1][0])], *beaten[::-1], *tied.values()]:
+        rank = 1 + len(found)
+        found += [(str(rank), str(it), event.names[it - 1]) for it in merits if it in group]
+    return found
+
+
 def rounds_counted(event):
     return sum(all(score for _, _, score in matches) for matches in event.stored)
 
@@ -243,4 +260,6 @@ def parts_due(event, number, is_board=False, has_bracket=True):
         due.append("standings")
     if event.stages and has_bracket:
         due.append("bracket")
+    if event.phase == FINISHED and has_bracket and not is_board:
+        due.append("final")
     return due

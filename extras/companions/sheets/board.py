@@ -21,7 +21,8 @@ SIZES = (1.9, 1.75, 1.6, 1.45, 1.3, 1.15, 1.0, 0.9, 0.8, 0.7, 0.6)
 MOST_COLUMNS = 8
 # of a row: the room that is not for names, and how many names stand side by side
 ROOMS = {
-    "players": (2.6, 1), "names": (4.4, 2), "tables": (12.4, 2), "standings": (21.0, 1), "seats": (6.0, 1)
+    "players": (2.6, 1), "names": (4.4, 2), "tables": (12.4, 2), "standings": (21.0, 1), "seats": (6.0, 1),
+    "final": (5.6, 1),
 }
 
 Names = Tuple[str, ...]
@@ -39,6 +40,7 @@ def rows_of(part: Part) -> List[Names]:
     """The names in each row."""
     rows: List[Names] = [(player.name,) for player in part.players]
     rows += [(row.first.name, row.second.name if row.second else "") for row in part.tables]
+    rows += [(ranked.player.name,) for ranked in part.ranking]
     rows += [(row.player.name, row.opponent.name if row.opponent else "") for row in part.names]
     rows += [
         (standing.player.name + (" dropped" if standing.player.has_dropped else ""),)

@@ -5,6 +5,7 @@ from dataclasses import dataclass
 from typing import Dict, FrozenSet, List, Optional, Tuple
 
 from companions.event import Event
+from companions.exports import Ranked, final_ranking
 from companions.lists import Match, Matches, Player, Standing
 from companions.names import sort_key
 from companions.phones.codes import TABLE, Secret, shown_code
@@ -12,7 +13,7 @@ from companions.sheets.bracket import Drawing, Tree
 from companions.sheets.squares import square_of
 from companions.sheets.widths import size_for
 
-DEFAULT_PARTS = ("players", "tables", "names", "slips", "standings", "bracket")
+DEFAULT_PARTS = ("players", "tables", "names", "slips", "standings", "bracket", "final")
 PARTS = (*DEFAULT_PARTS, "seats")
 SLIPS_A_SHEET = 5
 # the name on a slip: its size in points, and its room in millimetres
@@ -82,6 +83,7 @@ class Part:
     names: Tuple[NameRow, ...] = ()
     stacks: Tuple[Tuple[Slip, ...], ...] = ()
     standings: Tuple[Standing, ...] = ()
+    ranking: Tuple[Ranked, ...] = ()
     drawing: Optional[Drawing] = None
     note: str = ""
 
@@ -199,6 +201,11 @@ def bracket_part(event: Event) -> Optional[Part]:
     return Part("bracket", "Playoff", drawing=Tree(event).drawn()) if event.stages else None
 
 
+def final_part(event: Event) -> Optional[Part]:
+    ranking = tuple(final_ranking(event))
+    return Part("final", "Final ranking", ranking=ranking) if ranking else None
+
+
 def part_of(kind: str, event: Event, number: int, wanted: SlipsFor = SlipsFor()) -> Optional[Part]:
     """A part of the event and of the round of this number, or nothing where there is nothing for it."""
     if kind == "players":
@@ -214,4 +221,6 @@ def part_of(kind: str, event: Event, number: int, wanted: SlipsFor = SlipsFor())
         return seats_part(event)
     if kind == "standings":
         return standings_part(event) if event.rounds else None
+    if kind == "final":
+        return final_part(event)
     return bracket_part(event)
