@@ -23,8 +23,9 @@ given=(
     '--tables[the slips of these tables alone]:tables:'
     '--round[the round whose pairings and slips are shown]:round:'
     '--board[for a screen]'
-    '--watch[write the page to this file]:page:_files'
-    '--parts[these parts alone]:parts:_values -s , part players tables names slips standings bracket seats'
+    '(--watch -o --output)'{-o,--output}'[write the page to this file, once it is whole]:page:_files'
+    '(-o --output)--watch[write the page to this file, again and again]:page:_files'
+    '--parts[these parts alone]:parts:_values -s , part players tables names slips standings bracket final seats'
     '--title[what to head the sheets with]:text:'
 )
 _arguments $given

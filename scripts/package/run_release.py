@@ -172,7 +172,7 @@ def read_manuals(root):
 
 
 def options_of(help_text):
-    return sorted(set(re.findall(r"^  (?:-[a-z], )?(--[a-z][a-z-]*)", help_text, re.M)))
+    return sorted(set(re.findall(r"^  (?:-[a-z](?: [A-Z]+)?, )?(--[a-z][a-z-]*)", help_text, re.M)))
 
 
 def complete(root):

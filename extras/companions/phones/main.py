@@ -30,7 +30,7 @@ an evening:
       serves the phones at this machine's address (hostname -I says it), and the
       scorekeeper's page on this machine alone. Ctrl-C ends it, and nothing that
       was answered is lost. The next time: event-phones friday.event
-  event-sheets friday.event --parts slips > slips.html
+  event-sheets friday.event --parts slips
       the slips of the open tables, with their codes: print them
   event-phones friday.event --clock 50
       starts a clock of 50 minutes on phones and board, as the prompt's clock 50

@@ -157,7 +157,7 @@ def serve(words: argparse.Namespace, program: str, secret: Secret) -> int:
     print(
         f"Phones: {secret.at} (listening at {where})\n"
         f"Scorekeeper: http://127.0.0.1:{desk_port}/\n"
-        f"Slips with codes: event-sheets {words.file} --parts slips > slips.html\n"
+        "Slips with codes, at the prompt: print slips\n"
         "Ctrl-C ends; what was answered is in the file.",
         flush=True,
     )

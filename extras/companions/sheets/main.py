@@ -2,21 +2,26 @@
 from __future__ import annotations
 
 import argparse
-import contextlib
 import os
 import sys
-import tempfile
 import time
 from typing import Callable, Optional
 
 from companions.arguments import add_program, port_word, tables_word
-from companions.clock import kept_clock
 from companions.event import Event
-from companions.phones.codes import kept_secret
+from companions.names import visible
 from companions.program import Declined, OverFile, OverPort, Source, ready
-from companions.sheets.parts import DEFAULT_PARTS, PARTS, SECONDS_TO_RELOAD
+from companions.sheets.files import (
+    NEXT_OF_BOARD,
+    NEXT_OF_SHEETS,
+    must_be_for_pages,
+    must_write,
+    page_beside,
+    write_page,
+)
+from companions.sheets.making import PACKAGE, Wanted, page_maker
+from companions.sheets.parts import PARTS, SECONDS_TO_RELOAD
 from companions.sheets.reading import NoRound, Unread, read_whole
-from companions.title import shown_text, title_of
 from companions.turn import Turn
 
 COMMAND = "event-sheets"
@@ -28,76 +33,32 @@ BESIDE = (".doubts", ".title", ".clock", ".names", ".phones")
 
 HELP = """\
 Writes one HTML page with the sheets of an event: pairings by table and by name,
-result slips to cut for the tables that have no score yet, standings, and the
-bracket. Open it in a browser and print it: each part begins a page of its own.
-Where phones hand in (event-phones), each slip of the newest round has its code.
+result slips to cut for the tables that have no score yet, standings, the
+bracket, and the final ranking. Open it in a browser and print it: each part
+begins a page of its own. At a terminal it goes into FILE.sheets.html, or with
+--board into FILE.board.html; into a pipe or a file it is printed. Where phones
+hand in (event-phones), each slip of the newest round has its code.
 """
 
 EXAMPLES = """\
 parts: players (until a round is paired), tables, names, slips, standings,
-bracket. All that there are, unless --parts names some. One more, seats, is made
-where it is named: two players a table by name, for the players' meeting.
+bracket, final. All that there are, unless --parts names some. One more, seats,
+is made where it is named: two players a table by name, for a players' meeting.
 
 examples:
-  event-sheets friday.event > page.html
-  event-sheets friday.event --parts slips > slips.html
+  event-sheets friday.event
+      writes friday.event.sheets.html, as `print` does at the prompt
+  event-sheets friday.event --parts slips -o slips.html
   event-sheets friday.event --board --watch board.html
       the board for the screen: open board.html in a browser and leave it open.
       Ctrl-C ends the watching
-  event-sheets friday.event --port 8080 > page.html
+  event-sheets friday.event --port 8080 -o page.html
       while `event_reporter serve friday.event 8080 1000000` holds the file
 """
 
 NO_JINJA = f"""\
 {COMMAND}: its pages are made by Jinja2, which is not installed here.
-On Debian: sudo apt-get install python3-jinja2"""
-
-
-def page_maker(words: argparse.Namespace) -> Callable[[Event], str]:
-    """What makes the page of an event as it is. Jinja2 is loaded here, so that all else goes without."""
-    from companions.sheets.page import Board, open_tables_of, page_of, parts_of_board, turn_now
-    from companions.sheets.parts import SlipsFor
-
-    def board(event: Event) -> Optional[Board]:
-        """A page that is written again and again shows its parts in turn, and the minutes that are left."""
-        clock, now = kept_clock(words.file), time.time()
-        if not words.board:
-            return None
-        if not words.watch:
-            return Board(None, f"until {clock.ends_at()}" if clock else "")
-        return Board(turn_now(now), clock.shown(now) if clock else "", open_tables_of(event))
-
-    def make(event: Event) -> str:
-        newest = len(event.rounds)
-        number: int = newest if words.round is None else words.round
-        if words.round is not None and not 1 <= number <= newest:
-            there = f"Round {number} is not paired. The newest round is {newest}."
-            raise NoRound(there if newest else "No round is paired yet.")
-        kinds = words.parts or (parts_of_board(event) if words.board else DEFAULT_PARTS)
-        slips = SlipsFor(words.tables, kept_secret(words.file))
-        title = shown_text(words.title) if words.title else title_of(words.file, event.source.turn)
-        return page_of(event, title, number, kinds, board(event), slips)
-
-    return make
-
-
-def replace(path: str, text: str) -> None:
-    """Writes a file beside and renames it, so that nobody reads half of it."""
-    folder = os.path.dirname(os.path.abspath(path))
-    handle, beside = tempfile.mkstemp(prefix=".sheets-", suffix=".html", dir=folder)
-    try:
-        with os.fdopen(handle, "w", encoding="utf-8", newline="\n") as page:
-            page.write(text)
-        # mkstemp makes files for one user alone; a web server or another log-in may have to read this one
-        mask = os.umask(0)
-        os.umask(mask)
-        os.chmod(beside, 0o666 & ~mask)
-        os.replace(beside, path)
-    except BaseException:
-        # Ctrl-C may also come after the renaming
-        with contextlib.suppress(FileNotFoundError):
-            os.unlink(beside)
-        raise
+On Debian: {PACKAGE}"""
 
 
 def stamps_beside(file: str) -> list[float]:
@@ -134,7 +95,7 @@ class Watch:
             return
         try:
             if text != self.written:
-                replace(self.page, text)
+                write_page(self.page, text)
         except OSError as fault:
             if self.written is None:
                 raise
@@ -170,7 +131,14 @@ def parser() -> argparse.ArgumentParser:
         action="store_true",
         help="for a screen: large, and reloading itself every 20 seconds; with --watch its parts in turn",
     )
-    add(
+    where = words.add_mutually_exclusive_group()
+    where.add_argument(
+        "-o",
+        "--output",
+        metavar="PAGE",
+        help="write the page to this file, once it is whole; - prints it",
+    )
+    where.add_argument(
         "--watch",
         metavar="PAGE",
         help="write the page to this file, again whenever the event has taken a command",
@@ -198,16 +166,36 @@ def source_for(words: argparse.Namespace) -> Source:
     return OverFile(ready(words.program), words.file, Turn(words.file), most_tries=1)
 
 
+def wanted_by(words: argparse.Namespace) -> Wanted:
+    is_watched = bool(words.watch)
+    return Wanted(words.file, words.parts, words.round, words.tables, words.title, words.board, is_watched)
+
+
+def page_for(words: argparse.Namespace) -> str:
+    """The file that the page goes into, or nothing where it is printed."""
+    if words.output == "-":
+        return ""
+    beside = page_beside(words.file, words.board) if sys.stdout.isatty() else ""
+    return str(words.watch or words.output or beside)
+
+
 def run(words: argparse.Namespace) -> int:
     try:
-        make = page_maker(words)
+        make = page_maker(wanted_by(words))
     except ImportError:
         print(NO_JINJA, file=sys.stderr)
         return 3
-    source = source_for(words)
+    source, page = source_for(words), page_for(words)
+    if page:
+        must_be_for_pages(page, words.file)
     if words.watch:
-        Watch(source, words.file, words.watch, make).go_on()
-    write_out(read_whole(source, words.file, make))
+        Watch(source, words.file, page, make).go_on()
+    text = read_whole(source, words.file, make)
+    if page:
+        must_write(page, text)
+        print(f"Written: {visible(page)}", NEXT_OF_BOARD if words.board else NEXT_OF_SHEETS, sep="\n")
+    else:
+        write_out(text)
     return 0
 
 

@@ -77,15 +77,14 @@ def turn_now(now: float) -> int:
     return int(now // SECONDS_TO_RELOAD)
 
 
-def page_of(
-    event: Event,
-    title: str,
-    number: int,
-    kinds: Iterable[str],
-    board: Optional[Board] = None,
-    slips: SlipsFor = SlipsFor(),
-) -> str:
-    parts: List[Part] = [part for part in (part_of(kind, event, number, slips) for kind in kinds) if part]
+def parts_for(
+    event: Event, number: int, kinds: Iterable[str], slips: SlipsFor = SlipsFor()
+) -> List[Part]:
+    """The parts of these kinds that there are."""
+    return [part for part in (part_of(kind, event, number, slips) for kind in kinds) if part]
+
+
+def rendered(parts: List[Part], title: str, number: int, board: Optional[Board] = None) -> str:
     template = templates().get_template("page.html")
     text: str = template.render(
         title=title,
@@ -99,3 +98,14 @@ def page_of(
         slip_letters=SLIP_LETTERS,
     )
     return text
+
+
+def page_of(
+    event: Event,
+    title: str,
+    number: int,
+    kinds: Iterable[str],
+    board: Optional[Board] = None,
+    slips: SlipsFor = SlipsFor(),
+) -> str:
+    return rendered(parts_for(event, number, kinds, slips), title, number, board)

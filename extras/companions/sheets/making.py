@@ -1,0 +1,80 @@
+"""What makes a page of an event: for the command line, and for the prompt."""
+from __future__ import annotations
+
+import time
+from dataclasses import dataclass
+from typing import Callable, FrozenSet, Optional, Sequence
+
+from companions.clock import kept_clock
+from companions.event import Event
+from companions.phones.codes import kept_secret
+from companions.program import Declined
+from companions.sheets.parts import DEFAULT_PARTS
+from companions.sheets.reading import NoRound
+from companions.title import shown_text, title_of
+
+# what is to be installed
+PACKAGE = "sudo apt-get install python3-jinja2"
+# why a part that was asked for isn't there
+NOTHING = {
+    "players": "Once a round is paired, the names stand beside the tables: print names",
+    "tables": "No round is paired yet, so there are no tables to print. Next: pair",
+    "names": "No round is paired yet, so nobody has a table. The players: print players",
+    "slips": "No table is open, so there is no slip to print.",
+    "standings": "No round is paired yet, so there are no standings to print.",
+    "bracket": "The playoff has not begun, so there is no bracket to print. Next: cut",
+    "final": "There is no champion yet. Until then: print standings",
+}
+
+
+@dataclass(frozen=True)
+class Wanted:
+    """What a page is to show: parts, or all that there are, of a round, or of the newest one."""
+
+    file: str
+    parts: Optional[Sequence[str]] = None
+    round: Optional[int] = None
+    tables: Optional[FrozenSet[int]] = None
+    title: Optional[str] = None
+    # a page for the screen; and one that is written again and again
+    is_board: bool = False
+    is_watched: bool = False
+    # where nothing is there of what is asked for, it is said
+    may_be_empty: bool = True
+
+
+def number_of(wanted: Wanted, event: Event) -> int:
+    """The round that is shown, or 0 before the first one."""
+    newest = len(event.rounds)
+    if wanted.round is None:
+        return newest
+    if not 1 <= wanted.round <= newest:
+        there = f"Round {wanted.round} is not paired. The newest round is {newest}."
+        raise NoRound(there if newest else "No round is paired yet.")
+    return wanted.round
+
+
+def page_maker(wanted: Wanted) -> Callable[[Event], str]:
+    """What makes the page of an event as it is. Jinja2 is loaded here, so that all else goes without."""
+    from companions.sheets.page import Board, open_tables_of, parts_for, parts_of_board, rendered, turn_now
+    from companions.sheets.parts import SlipsFor
+
+    def board(event: Event) -> Optional[Board]:
+        """A page that is written again and again shows its parts in turn, and the minutes that are left."""
+        clock, now = kept_clock(wanted.file), time.time()
+        if not wanted.is_board:
+            return None
+        if not wanted.is_watched:
+            return Board(None, f"until {clock.ends_at()}" if clock else "")
+        return Board(turn_now(now), clock.shown(now) if clock else "", open_tables_of(event))
+
+    def make(event: Event) -> str:
+        number = number_of(wanted, event)
+        kinds = wanted.parts or (parts_of_board(event) if wanted.is_board else DEFAULT_PARTS)
+        parts = parts_for(event, number, kinds, SlipsFor(wanted.tables, kept_secret(wanted.file)))
+        if not parts and not wanted.may_be_empty:
+            raise Declined(NOTHING.get(kinds[0], "There is nothing to print yet."))
+        title = shown_text(wanted.title) if wanted.title else title_of(wanted.file, event.source.turn)
+        return rendered(parts, title, number, board(event))
+
+    return make
