@@ -18,6 +18,7 @@ from companions.prompt.offers import OF_PLAYERS, Offer, offers_of_files, offers_
 from companions.prompt.news import News
 from companions.prompt.phones import Phones
 from companions.prompt.players import Players
+from companions.prompt.printing import Printing
 from companions.prompt.results import Results
 from companions.prompt.rounds import Rounds
 from companions.prompt.session import Session, begun, prompt_at, why_not_used
@@ -59,6 +60,7 @@ class Desk(cmd.Cmd):
         self.results, self.rounds = Results(self.session), Rounds(self.session)
         self.players, self.evening = Players(self.session), Evening(self.session)
         self.listing, self.phones = Listing(self.session), Phones(self.session)
+        self.printing = Printing(self.session)
         self.news = News(self.session)
         names = self.get_names()
         self.words = sorted(name[3:] for name in names if name.startswith("do_"))
@@ -134,6 +136,9 @@ class Desk(cmd.Cmd):
     def do_final(self, rest: str) -> None:
         only("final", rest)
         self.listing.final()
+
+    def do_print(self, rest: str) -> None:
+        self.printing.print(rest)
 
     def do_cut(self, rest: str) -> None:
         only("cut", rest)
