@@ -31,6 +31,11 @@ def visible(text: str) -> str:
     )
 
 
+def begun(text: str) -> str:
+    """As the beginning of a line."""
+    return text[:1].upper() + text[1:]
+
+
 def is_turning(letter: str) -> bool:
     return letter in TURNING or (unicodedata.category(letter) in ("Cc", "Zl", "Zp") and letter != "\n")
 

@@ -187,7 +187,8 @@ def slips_due(event, number, title):
     """A slip for each match that has no score: games won twice, drawn once, two drops, two signatures."""
     matches = [(f"Round {number}", f"Table {place}", match) for place, match in enumerate(event.stored[number - 1] if number else [], 1)]
     for stage, slots in enumerate(event.stages, 1):
-        matches += [(f"Playoff, stage {stage}", f"Slot {slot}", match) for slot, match in enumerate(slots, 1)]
+        name = ("Final", "Semifinal", "Quarterfinal")[len(event.stages[0]).bit_length() - stage]
+        matches += [("Playoff", name if name == "Final" else f"{name} {slot}", match) for slot, match in enumerate(slots, 1)]
     players = lambda it: [(str(number), event.names[number - 1]) for number in it[:2]]
     return in_stack([(title, where, table, *players(match), [5, 3, 1, 2, 2]) for where, table, match in matches if not match[2]])
 

@@ -9,7 +9,7 @@ import traceback
 from typing import Optional
 
 from companions.event import Phase
-from companions.names import visible
+from companions.names import begun, visible
 from companions.program import FAULTS, Declined, NoAnswer, Refusal, Refused, Source
 from companions.prompt.evening import Evening
 from companions.prompt.lines import Input, OutOfStep
@@ -21,7 +21,7 @@ from companions.prompt.players import Players
 from companions.prompt.printing import Printing
 from companions.prompt.results import Results
 from companions.prompt.rounds import Rounds
-from companions.prompt.session import Session, begun, prompt_at, why_not_used
+from companions.prompt.session import Session, prompt_at, why_not_used
 from companions.prompt.texts import ALL_COMMANDS, BEGINNING, COMMANDS, PLAYOFF
 
 # the command line's words for what is shorter here, and other spellings; they are taken, and not offered

@@ -7,9 +7,10 @@ from typing import Optional
 from companions.doubts import Doubt
 from companions.event import Phase
 from companions.lists import Match
+from companions.names import begun
 from companions.program import Declined, Refusal, Refused, Score
 from companions.prompt.lines import numbers_in, score_in, unbroken, with_score
-from companions.prompt.session import Command, Session, begun
+from companions.prompt.session import Command, Session
 from companions.stages import slot_shown
 
 

@@ -17,9 +17,10 @@ from companions.checking import (
 )
 from companions.clock import kept_clock, start_clock, stop_clock
 from companions.copies import Copy
+from companions.names import begun
 from companions.program import FAULTS, Declined, Refusal, Refused
 from companions.prompt.lines import minutes_in, minutes_of, numbers_in, score_in, unbroken, with_score
-from companions.prompt.session import Command, Session, begun, ranges, tables_named
+from companions.prompt.session import Command, Session, ranges, tables_named
 from companions.stages import slot_shown, words_of_slot
 
 

@@ -389,10 +389,5 @@ def ranges(numbers: list[int]) -> str:
     return ", ".join(f"{run[0]}-{run[-1]}" if len(run) > 2 else ", ".join(map(str, run)) for run in runs)
 
 
-def begun(text: str) -> str:
-    """As the beginning of a line."""
-    return text[:1].upper() + text[1:]
-
-
 def counted(count: int, what: str) -> str:
     return f"{count} {what}{'' if count == 1 else 's'}"

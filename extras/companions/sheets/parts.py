@@ -7,11 +7,12 @@ from typing import Dict, FrozenSet, List, Optional, Tuple
 from companions.event import Event
 from companions.exports import Ranked, final_ranking
 from companions.lists import Match, Matches, Player, Standing
-from companions.names import sort_key
+from companions.names import begun, sort_key
 from companions.phones.codes import TABLE, Secret, shown_code
 from companions.sheets.bracket import Drawing, Tree
 from companions.sheets.squares import square_of
 from companions.sheets.widths import size_for
+from companions.stages import slot_shown
 
 DEFAULT_PARTS = ("players", "tables", "names", "slips", "standings", "bracket", "final")
 PARTS = (*DEFAULT_PARTS, "seats")
@@ -162,7 +163,10 @@ def slips_of(event: Event, number: int, wanted: SlipsFor) -> List[Slip]:
     for stage, matches in enumerate(event.stages, 1):
         slips += [
             Slip(
-                f"Playoff, stage {stage}", f"Slot {match.place}", players[match.first], players[match.second]
+                "Playoff",
+                begun(slot_shown(stage, match.place, event.first_stage)),
+                players[match.first],
+                players[match.second],
             )
             for match in matches
             if match.is_open and wanted.tables is None
