@@ -51,6 +51,7 @@ def test_four_numbers_ask_which_table_is_meant(prompt, begun):
     text = prompt.said(begun, "fix 1 2 1 0", "n")
     check_said("it asks", text, f"Round 1, table 2: {shown}, in place of 0-2-0", "Replace it? (y or n) n", "Nothing was replaced.", "For table 1 of round 1: fix 1 1 2 1 0")
     assert scores(begun) == [(0, 2, 0), (0, 2, 0)]
+    check_said("no such round", prompt.said(begun, "fix 2 0 0 1"), "Round 2 has no table 0.\nFor table 2 of round 1: fix 1 2 0 0 1\n")
     prompt.said(begun, "fix 1 1 2 1 0", "fix 1 2 1 0", "y")
     assert scores(begun) == [(2, 1, 0), (1, 0, 0)]
 
@@ -91,6 +92,8 @@ def test_stages_by_their_names(prompt, started):
     text = prompt.said(file, "play sf1 2 0", "play semi 2 1 2", "play final 1 2 0", "n", "play final 1 2", "where")
     check_said("to the champion", unfilled(text), "Semifinal 1: ", "Semifinal 2: ", "Is this the score? (y or n) n", "Final: ", "The champion is ", ". See: final")
     assert [score for _, _, score in read(file).stages[2]] == [(1, 2, 0)]
+    text = prompt.said(file, "final 2", "final x")
+    assert re.findall(r"^ +\d+  P\d \(\d\)$", text, re.M) == re.findall(r"^ +[12]  P\d \(\d\)$", text, re.M) and "Type numbers, such as final 8" in text
     check_said("who", prompt.said(file, f"who {read(file).stages[2][0][0]}"), "quarterfinal ", "semifinal ", "final: ")
     check_said("copies", prompt.said(file, "back"), "before the score of quarterfinal 2", "before the score of semifinal 1", "before the score of the final")
 
@@ -189,7 +192,7 @@ def test_a_pairing_that_is_refused_leaves_the_clock(prompt, begun):
 
 
 def test_words_that_take_nothing(prompt, begun):
-    words = "players", "bracket", "cut", "start", "where", "migrate", "undo", "final", "keys", "open", "phones", "quit"
+    words = "players", "bracket", "cut", "start", "where", "migrate", "undo", "keys", "open", "phones", "quit"
     text = prompt.said(begun, *(f"{word} 4" for word in words))
     check_said("they say so", text, *(f"{word} takes nothing after it. To do it, type: {word}\n" for word in words))
     assert read(begun).serial == 6

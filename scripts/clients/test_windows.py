@@ -111,7 +111,7 @@ def test_a_round_that_another_window_paired_again(prompt, begun):
         prompt.said(begun, "back 2", "y", "pair")
         if [match[:2] for match in read(begun).stored[1]] != before:
             break
-    assert "Another window put another file in place, by back or rename: round 2 now." in unfilled(one.read_for(b"where"))
+    assert "Another window put another file in place, by back or rename. This is round 2 now." in unfilled(one.read_for(b"where"))
     check_said("it asks", one.send("1 2 0"), "Another window put another file in place meanwhile", "Is this a score of round 2? (y or n) ")
     one.send("n")
     assert scores(begun, 2) == [None, None]

@@ -134,8 +134,7 @@ class Desk(cmd.Cmd):
         self.listing.export(rest)
 
     def do_final(self, rest: str) -> None:
-        only("final", rest)
-        self.listing.final()
+        self.listing.final(rest)
 
     def do_print(self, rest: str) -> None:
         self.printing.print(rest)

@@ -6,6 +6,7 @@ import os
 from companions.event import shown_player
 from companions.exports import final_ranking, playoff_csv, standings_csv
 from companions.program import Declined
+from companions.prompt.lines import numbers_in
 from companions.prompt.session import Session
 
 KINDS = ("players", "results", "standings", "playoff")
@@ -43,10 +44,12 @@ class Listing:
             raise Declined(f"{path} is there already. Name another file, or take it away first.") from None
         self.session.say(f"Written: {path}")
 
-    def final(self) -> None:
+    def final(self, rest: str) -> None:
+        """The final ranking, or the first ones of it."""
         session = self.session
         session.must_be_ours("final")
+        first = int(numbers_in(rest, 0, 1, "final 8")[0]) if rest else None
         ranking = final_ranking(session.event)
         if not ranking:
             raise Declined("There is no champion yet. Until then: standings")
-        session.say(*(f"{ranked.rank:4}  {shown_player(ranked.player)}" for ranked in ranking))
+        session.say(*(f"{ranked.rank:4}  {shown_player(ranked.player)}" for ranked in ranking[:first]))

@@ -134,14 +134,16 @@ class Results:
         """Asks, if the round is an older one, or may be meant as a table."""
         session, newest = self.session, len(self.session.event.rounds)
         match = session.event.match(number, table)
+        is_a_table = len(words) == 4 and session.event.match(newest, words[0])
+        other = f"\nFor table {number} of round {newest}: fix {newest} {' '.join(words)}" if is_a_table else ""
+        if not match and other:
+            raise Declined(f"Round {number} has no table {table}.{other}")
         if not match or match.is_bye or match.is_open or (number == newest and len(words) != 4):
             return
         shown = session.event.shown(match, "-".join(score))
         session.say(f"Round {number}, table {table}: {shown}, in place of {match.score}")
         if not session.lines.says_yes("Replace it?"):
-            other = f"\nFor table {number} of round {newest}: fix {newest} {' '.join(words)}"
-            is_other = len(words) == 4 and session.event.match(newest, words[0])
-            raise Declined(f"Nothing was replaced.{other if is_other else ''}")
+            raise Declined(f"Nothing was replaced.{other}")
 
     def correct(self, number: int, table: str, score: Score) -> None:
         session, shown = self.session, "-".join(score)

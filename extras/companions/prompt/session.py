@@ -104,8 +104,8 @@ class Session:
         """Between what was told last and what is there now."""
         before = self.known
         if now.inode != before.inode:
-            here = f"round {now.number} now. " if now.number else ""
-            return [f"Another window put another file in place, by back or rename: {here}See: where"]
+            here = f" This is round {now.number} now." if now.number else ""
+            return [f"Another window put another file in place, by back or rename.{here} See: where"]
         if now.is_cut and not before.is_cut:
             return ["The playoff was begun in another window. See: bracket"]
         if now.number > before.number:
