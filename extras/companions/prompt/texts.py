@@ -50,7 +50,7 @@ PLAYOFF = """\
                      of a semifinal, and of the final
   bracket, open      the playoff; its matches that have no score yet
   where              where the event is
-  final, final 8     the final ranking, once there is a champion; its first eight
+  final, final 8     the final ranking, once there is a champion; the first 8
   who an, who 12     finds players by a part of the name, or by the number
   standings          those after the last round
   print bracket, print final
