@@ -35,6 +35,7 @@ PARTS = {
     "windows": ("test_windows.py", "test_typing.py"),
     "prompt": ("test_prompt.py", module("clients.run_desk", PROGRAM, "extras/desk.py", (10, 300), SEED)),
     "sheets": ("test_sheets.py", module("clients.run_sheets", PROGRAM, "extras/sheets.py", (12, 400), SEED),),
+    "race": ("test_race.py",),
     "companions": (bash("extras"),),
     "http": (bash("http", LONG, "--seed", SEED),),
     "phones": (bash("phones", LONG, "--seed", SEED),),
