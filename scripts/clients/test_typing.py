@@ -8,7 +8,7 @@ import time
 import pytest
 
 from scripts.clients.event_files import as_nobody
-from scripts.clients.prompt import LETTERS, check_said, keys_of, match_shown, player_shown, unfilled
+from scripts.clients.prompt import LETTERS, PYTHON, check_said, keys_of, match_shown, player_shown, unfilled
 from scripts.models.plain_file import read
 
 NAMES = "Ana Lima", "Bo Sato", "Cy Young", "Di Ito"
@@ -139,10 +139,16 @@ def test_several_drop(prompt, begun):
 
 
 def test_who_finds_one_with_all_matches(prompt, begun):
+    """And with rank and points, once a round is complete."""
+    event = read(begun)
+    table = next(place for place, match in enumerate(event.stored[0], 1) if 1 in match[:2])
+    first, second = (player_shown(event, number) for number in event.stored[0][table - 1][:2])
     text = prompt.said(begun, "who lim")
-    match = next(match for match in read(begun).stored[0] if 1 in match[:2])
-    first, second = (player_shown(read(begun), number) for number in match[:2])
-    check_said("who", text, "   1   Ana Lima", f"  round 1, table {read(begun).stored[0].index(match) + 1}: {first} - {second}")
+    check_said("who", text, "   1   Ana Lima", f"  round 1, table {table}: {first} - {second}")
+    assert "rank" not in text
+    text = prompt.said(begun, "1 2 0", "2 0 2", "who lim")
+    rank, _, points, *_ = next(line for line in read(begun).standings() if line.endswith("Ana Lima")).split()
+    check_said("rank and points", text, f"  rank {rank} with {points} points\n  round 1, table {table}: ")
 
 
 def test_drop_is_not_asked_for_what_is_refused(prompt, started):
@@ -151,6 +157,11 @@ def test_drop_is_not_asked_for_what_is_refused(prompt, started):
     text = prompt.said(file, "drop 1")
     assert "(y or n)" not in text
     check_said("drop in the playoff", text, "nobody drops any more", "(refused 6 NotSwiss)")
+
+
+def test_a_file_with_spaces_goes_into_quotes(prompt):
+    ran = subprocess.run([*PYTHON, prompt.desk, "my", "event.event"], capture_output=True, timeout=60, env=LETTERS)
+    assert (ran.returncode, b"event-desk 'my event.event'" in ran.stderr) == (2, True)
 
 
 # ---- the clock

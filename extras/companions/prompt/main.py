@@ -5,7 +5,7 @@ import argparse
 import io
 import os
 import sys
-from typing import Optional
+from typing import NoReturn, Optional
 
 from companions.arguments import add_program, port_word
 from companions.program import Declined, OverFile, OverPort, Source, ready
@@ -38,12 +38,17 @@ that it makes before what can't be taken back, and FILE.title, the event's name.
 """
 
 
+class Words(argparse.ArgumentParser):
+    def error(self, message: str) -> NoReturn:
+        if message.startswith("unrecognized arguments"):
+            message += ". A FILE with spaces goes into quotes: event-desk 'my event.event'"
+        super().error(message)
+
+
 def parser() -> argparse.ArgumentParser:
     below = f"at the prompt:\n{ALL_COMMANDS}\n{EXAMPLE}"
     as_it_is = argparse.RawDescriptionHelpFormatter
-    words = argparse.ArgumentParser(
-        prog=COMMAND, description=DESCRIPTION, epilog=below, formatter_class=as_it_is
-    )
+    words = Words(prog=COMMAND, description=DESCRIPTION, epilog=below, formatter_class=as_it_is)
     add = words.add_argument
     add("file", metavar="FILE", help="the event's file")
     over_http = "hand in over HTTP, to `event_reporter serve FILE N COUNT`"

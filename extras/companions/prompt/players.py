@@ -57,7 +57,13 @@ class Players:
             dropped = "D" if player.has_dropped else " "
             self.session.say(f"{player.number:4} {dropped} {visible(player.name)}{self.seat_of(player)}")
         if len(found) == 1:
-            self.session.say(*self.matches_of(found[0]))
+            self.session.say(*self.place_of(found[0]), *self.matches_of(found[0]))
+
+    def place_of(self, player: Player) -> list[str]:
+        """Rank and points, once a round is complete."""
+        event = self.session.event
+        theirs = [it for it in event.standings if it.player.number == player.number]
+        return [f"  rank {it.rank} with {it.points} points" for it in theirs if event.complete_rounds()]
 
     def matches_of(self, player: Player) -> list[str]:
         """All matches of a player, of the rounds and of the playoff."""
