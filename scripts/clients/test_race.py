@@ -10,7 +10,6 @@ import contextlib
 import copy
 import fcntl
 import glob
-import itertools
 import os
 import re
 import select
@@ -104,6 +103,12 @@ class Slip:
 
     def is_stored_in(self, event):
         return self.number <= len(event.stored) and self.stands_in(event) and event.stored[self.number - 1][self.table - 1][2] == self.score
+
+    def enters(self):
+        return act(lambda event: event.report(self.number, self.table, self.score, True))
+
+    def replaces(self):
+        return act(lambda event: event.report(self.number, self.table, self.score, False))
 
     def is_meant(self, text):
         """Whether a question is about this slip, as far as it names a round, players, and a score between them."""
@@ -209,35 +214,34 @@ class Phone:
 
 @dataclass
 class Move:
-    """A line, what it may make of the event besides nothing, and how its questions are answered."""
+    """A line, what each of its commands may make of an event, and how its questions are answered."""
 
     who: object
     line: str
-    effects: object = lambda event: []
+    acts: tuple = ()
     says_yes: object = lambda said: True
     slip: object = None
     said: str = ""
     has_declined: bool = False
 
 
-def changed(event, *acts):
-    """The event after each of these commands that is taken, one after the other."""
-    found = []
-    for act in acts:
-        new = copy.deepcopy(found[-1] if found else event)
-        if act(new)[0].startswith("ok "):
-            found.append(new)
-    return found
+def act(command):
+    """What a command may make of an event: what is sent to the plain one, unless that refuses it."""
+
+    def become(event):
+        new = copy.deepcopy(event)
+        return [new] if command(new)[0].startswith("ok ") else []
+
+    return become
 
 
-def outcomes(event, moves):
-    """What the file may be once all are through, in whatever order they came."""
+def outcomes(event, lines):
+    """What the event may be, once the commands of several lines are through that ran at once: each was taken or not, in whatever order."""
     found = [event]
-    for order in itertools.permutations(moves):
-        states = [event]
-        for move in order:
-            states += [it for state in states for it in move.effects(state)]
-        found += states
+    for at, (first, *rest) in ((at, acts) for at, acts in enumerate(lines) if acts):
+        others = [*lines[:at], rest, *lines[at + 1 :]]
+        for state in (event, *first(event)):
+            found += outcomes(state, others)
     return found
 
 
@@ -286,7 +290,7 @@ class Race:
         assert all(move.said for move in moves), self.story("somebody heard nothing")
         before, rows = self.event, self.rows()
         # a no is a no
-        due = outcomes(before, [move for move in moves if not move.has_declined])
+        due = outcomes(before, [move.acts for move in moves if not move.has_declined])
         found = [it for it in due if rows_of(it, TITLE) == rows]
         assert found != [], self.story(elsewhere(before, rows))
         self.event = found[0]
@@ -359,18 +363,18 @@ class Race:
         slip = self.dice.choice(window.slips)
         x, y, d = slip.score
         counts = f"{x} {y} {d}" if d else self.dice.choice((f"{x} {y}", f"{x}-{y}", f"{x},{y}", f"{x} {y} 0"))
-        line, acts = f"{slip.table} {counts}", [lambda event: event.report(slip.number, slip.table, slip.score, True)]
+        line, acts = f"{slip.table} {counts}", [slip.enters()]
         if slip.number != window.round or slip.tries:
             line = f"result {slip.number} {slip.table} {x} {y} {d}"
         elif self.can_drop() and self.dice.random() < 0.1:
             leaves = self.dice.choice((slip.first, slip.second))
-            line, acts = f"{line} drop {leaves}", [*acts, lambda event: event.drop(leaves)]
+            line, acts = f"{line} drop {leaves}", [*acts, act(lambda event: event.drop(leaves))]
 
         def says_yes(said):
             question = said.rstrip().split("\n")[-1]
             return question.startswith("Drop ") or slip.is_meant(said)
 
-        return Move(window, line, lambda event: changed(event, *acts), says_yes, slip)
+        return Move(window, line, tuple(acts), says_yes, slip)
 
     def correct(self, window):
         """A score of some round that was wrong, in one of the ways to type it."""
@@ -386,15 +390,14 @@ class Race:
         if number == window.round:
             ways += [f"{table} {x} {y} {d}", *[f"{table} {x} {y}"] * (d == 0)]
         line = f"{dice.choice(('fix', 'fix', 'fix', 'correct'))} {dice.choice(ways)}"
-        effects = lambda event: changed(event, lambda it: it.report(number, table, slip.score, False))
-        return Move(window, line, effects, slip.is_meant, slip)
+        return Move(window, line, (slip.replaces(),), slip.is_meant, slip)
 
     def scan(self):
         slip = self.scanned.pop(self.dice.randrange(len(self.scanned)))
         phone = self.dice.choice(self.phones)
         line = f"round {slip.number}, table {slip.table}, {slip.score}"
-        act = lambda event: event.report(slip.number, slip.table, slip.score, True)
-        return Move(phone, line, lambda event: changed(event, act) if slip.stands_in(event) else [], slip=slip)
+        enters = slip.enters()
+        return Move(phone, line, (lambda event: enters(event) if slip.stands_in(event) else [],), slip=slip)
 
     # ---- the other words
 
@@ -409,11 +412,11 @@ class Race:
         if self.keys(len(self.event.stored) + 1):
             ways += ["pair again"] * 4
 
-        def effects(event):
+        def paired(event):
             number = len(event.stored) + 1
-            return [it for key in self.keys(number) for it in changed(event, lambda new: new.pair(number, key))]
+            return [it for key in self.keys(number) for it in act(lambda new: new.pair(number, key))(event)]
 
-        return Move(window, self.dice.choice(ways), effects)
+        return Move(window, self.dice.choice(ways), (paired,))
 
     def sometimes(self):
         """Yes in most cases."""
@@ -423,14 +426,14 @@ class Race:
     def enrol(self, window):
         name = f"{self.dice.choice(FIRST_NAMES)} {len(self.event.names) + 1}{self.dice.choice('ABC')}"
         word = self.dice.choice(("enrol", "enrol", "enroll"))
-        return Move(window, f"{word} {name}", lambda event: changed(event, lambda it: it.enrol(name)))
+        return Move(window, f"{word} {name}", (act(lambda event: event.enrol(name)),))
 
     def import_list(self, window):
         names = [f"List {len(self.event.names)}{it}" for it in "xy"]
         with open(f"{self.room}/l.csv", "w") as written:
             written.write("\n".join(["Name", *names, ""]))
-        acts = [lambda event, name=name: event.enrol(name) for name in names]
-        return Move(window, f"import {self.room}/l.csv", lambda event: changed(event, *acts), self.sometimes())
+        acts = tuple(act(lambda event, name=name: event.enrol(name)) for name in names)
+        return Move(window, f"import {self.room}/l.csv", acts, self.sometimes())
 
     def rename(self, window):
         """Before the start the event is made again with the name; it has taken as many commands."""
@@ -438,22 +441,22 @@ class Race:
         first = self.dice.choice((self.event.names[number - 1].split()[0], "Newly"))
         name = f"{first} Renamed {self.dice.randrange(1000)}"
 
-        def effects(event):
+        def renamed(event):
             new = copy.deepcopy(event)
             new.names[number - 1] = name
-            return [new] if event.phase == ENROLLING and number <= len(event.names) else []
+            return [new] if event.phase == ENROLLING else []
 
-        return Move(window, f"rename {number} {name}", effects, self.sometimes())
+        return Move(window, f"rename {number} {name}", (renamed,), self.sometimes())
 
     def can_drop(self):
         return len(self.event.names) - len(self.event.dropped) > max(self.event.cut, 4) + 1
 
     def drop(self, window):
         number = self.dice.randint(1, len(self.event.names))
-        return Move(window, f"drop {number}", lambda event: changed(event, lambda it: it.drop(number)), self.sometimes())
+        return Move(window, f"drop {number}", (act(lambda event: event.drop(number)),), self.sometimes())
 
     def cut(self, window):
-        return Move(window, "cut", lambda event: changed(event, lambda it: it.end_rounds()), self.sometimes())
+        return Move(window, "cut", (act(Event.end_rounds),), self.sometimes())
 
     def play(self, window):
         matches, stage = self.event.stages[-1], len(self.event.stages)
@@ -462,13 +465,13 @@ class Race:
         counts = f"{x} {y} {d}" if d else f"{x} {y}"
         named = {1: "final", 2: f"sf{slot}", 4: f"qf{slot}"}[len(matches)]
         line = self.dice.choice((f"play {stage} {slot} {counts}", f"play {named} {counts}", f"playoff {stage} {slot} {x} {y} {d}"))
-        return Move(window, line, lambda event: changed(event, lambda it: it.play(stage, slot, score)))
+        return Move(window, line, (act(lambda event: event.play(stage, slot, score)),))
 
     def back(self, window):
         """To one of the last copies that there are."""
         path = self.dice.choice(sorted(self.copies, key=number_of)[-5:])
         self.backs += 1
-        return Move(window, f"back {number_of(path)}", lambda event: [self.copies[path]], self.sometimes())
+        return Move(window, f"back {number_of(path)}", (lambda event: [self.copies[path]],), self.sometimes())
 
     def look(self, window):
         """What changes nothing in the event."""
@@ -479,7 +482,7 @@ class Race:
         return Move(window, line, says_yes=lambda said: False)
 
     def start(self, window):
-        return Move(window, "start", lambda event: changed(event, lambda it: it.start()))
+        return Move(window, "start", (act(Event.start),))
 
     # ---- an evening
 
@@ -487,9 +490,7 @@ class Race:
         event = self.event
         if event.phase == SWISS and event.stored and is_complete(event.stored[-1]):
             number = len(event.stored) + 1
-            can_pair = number <= event.rounds and changed(event, lambda it: it.pair(number, bytes(32)))
-            can_cut = changed(event, lambda it: it.end_rounds())
-            return not can_pair and not can_cut
+            return not act(lambda it: it.pair(number, bytes(32)))(event) and not act(Event.end_rounds)(event)
         return event.phase == FINISHED
 
     def choices(self, window):
@@ -663,7 +664,7 @@ def two(prompt, dice, room):
     race.begin(2)
     one, _ = race.windows
     for name in ("Ana", "Bo", "Cy", "Di"):
-        race.do(Move(one, f"enrol {name}", lambda event, name=name: changed(event, lambda it: it.enrol(name))))
+        race.do(Move(one, f"enrol {name}", (act(lambda event, name=name: event.enrol(name)),)))
     race.do(race.start(one))
     race.do(race.pair(one))
     return race
@@ -674,8 +675,7 @@ def slip_of(event, number, table, score):
 
 
 def typed(window, slip, line):
-    act = lambda event: event.report(slip.number, slip.table, slip.score, True)
-    return Move(window, line, lambda event: changed(event, act), slip.is_meant, slip)
+    return Move(window, line, (slip.enters(),), slip.is_meant, slip)
 
 
 def test_a_slip_of_round_1_is_never_one_of_round_2(two):
@@ -695,7 +695,7 @@ def test_a_slip_of_round_2_after_the_other_window_went_back(two):
     path = next(it for it in two.copies if "before-pair-1" in it)
     two.do(two.pair(other))
     slip = slip_of(two.event, 2, 2, (0, 2, 0))
-    two.do(Move(one, f"back {number_of(path)}", lambda event: [two.copies[path]]))
+    two.do(Move(one, f"back {number_of(path)}", (lambda event: [two.copies[path]],)))
     two.do(two.pair(one))
     two.do(typed(other, slip, "2 0 2"))
     assert two.event.stored[0][1][2] is None, two.story("round 1, table 2, is open")
@@ -706,8 +706,7 @@ def test_a_correction_of_table_1_is_none_of_table_2(two):
     for table in (1, 2):
         two.do(typed(one, slip_of(two.event, 1, table, (2, 0, 0)), f"{table} 2 0"))
     slip = slip_of(two.event, 1, 1, (2, 1, 0))
-    act = lambda event: event.report(1, 1, slip.score, False)
-    two.do(Move(one, "fix 1 2 1 0", lambda event: changed(event, act), slip.is_meant, slip))
+    two.do(Move(one, "fix 1 2 1 0", (slip.replaces(),), slip.is_meant, slip))
 
 
 def test_each_word_of_the_prompt_is_typed_here(extras):
