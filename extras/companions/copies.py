@@ -9,13 +9,20 @@ import time
 from dataclasses import dataclass
 from typing import Optional
 
-from companions.files import copy_synced, has_log, move, remove_with_log, time_stamp
+from companions.files import copy_synced, exchange, has_log, move, remove_with_log, time_stamp
 from companions.holding import held_by_nobody
 from companions.lists import Players
 from companions.names import visible
 from companions.program import MOST_TRIES, SECONDS_BETWEEN_TRIES, Declined
 from companions.stages import slot_shown
 from companions.turn import Turn
+
+
+BY_NUMBER = {
+    "undrop": "the drop of player {} was taken back",
+    "remove": "player {} was removed",
+    "rename": "player {} got another name",
+}
 
 
 @dataclass(frozen=True)
@@ -30,7 +37,7 @@ class Copy:
     def shown(self, players: Players, first_stage: int = 0) -> str:
         day, hour = self.when.split("-")
         came = self.came_after(players, first_stage)
-        by_hand = {"copy": "copy, made by hand", "away": "put away by back or rename"}
+        by_hand = {"copy": "copy, made by hand", "away": "put away by back"}
         told = by_hand.get(self.what, f"before {came}")
         return f"{self.number:4}  {day[:4]}-{day[4:6]}-{day[6:]} {hour[:2]}:{hour[2:4]}:{hour[4:]}  {told}"
 
@@ -45,7 +52,15 @@ class Copy:
         if kind == "play":
             slot = slot_shown(int(numbers[0]), int(numbers[1]), first_stage)
             return f"the score of {'the ' if slot == 'final' else ''}{slot}"
-        return {"cut": "the cut", "migrate": "the migration"}.get(kind, " ".join([kind, *numbers]))
+        if kind == "score":
+            return f"the score of round {numbers[0]}, table {numbers[1]} was taken back"
+        if kind == "unplay":
+            slot = slot_shown(int(numbers[0]), int(numbers[1]), first_stage)
+            return f"the score of {'the ' if slot == 'final' else ''}{slot} was taken back"
+        if kind in BY_NUMBER:
+            return BY_NUMBER[kind].format(numbers[0])
+        whole = {"cut": "the cut", "migrate": "the migration", "plan": "the new plan"}
+        return whole.get(kind, " ".join([kind, *numbers]))
 
 
 class Copies:
@@ -107,25 +122,41 @@ class Copies:
         """Of a command that was refused, after which nothing came."""
         remove_with_log(copy.path)
 
-    def put_in_place(self, copy: Copy) -> Optional[str]:
+    def put_in_place(self, copy: Copy, what: str = "") -> Optional[Copy]:
         """Puts the event in use away, and the copy into its place. Where the event lies then, if there was
-        one. It is declined while another program has the file.
+        one: beside FILE, or among the copies as the one from before something. It is declined while another
+        program has the file.
 
-        The file goes before its log, so that it never lies there without; the copy's log comes before the
-        copy.
+        If both have closed their logs, and the system can exchange two names in one step, FILE is the old
+        event or the new one at each moment. Else the file goes before its log, so that it never lies there without,
+        and the copy's log comes before the copy.
         """
-        beside, away = f"{self.file}.back", f"{self.file}.away-{self.next_name()}"
+        beside = f"{self.file}.back"
         with self.turn.taken(), held_by_nobody(self.file):
             # what an earlier run left here, that was stopped, belongs to another copy
             remove_with_log(beside)
+            is_there, away = os.path.lexists(self.file), self.named_away(what)
+            if is_there and not has_log(self.file) and not has_log(copy.path):
+                # the new event has the old one's last name until they are exchanged
+                copy_synced(copy.path, away.path)
+                if exchange(away.path, self.file):
+                    return away
+                os.unlink(away.path)
             if has_log(copy.path):
                 copy_synced(f"{copy.path}-wal", f"{beside}-wal")
             copy_synced(copy.path, beside)
-            was_there = os.path.lexists(self.file)
             for log in ("", "-wal", "-shm"):
                 if os.path.lexists(self.file + log):
-                    move(self.file + log, away + log)
+                    move(self.file + log, away.path + log)
             for log in ("-wal", ""):
                 if os.path.exists(beside + log):
                     move(beside + log, self.file + log)
-        return away if was_there else None
+            return away if is_there else None
+
+    def named_away(self, what: str) -> Copy:
+        number, when = self.next_name().split("-", 1)
+        if not what:
+            return Copy(int(number), when, "away", f"{self.file}.away-{number}-{when}")
+        os.makedirs(self.folder, exist_ok=True)
+        path = os.path.join(self.folder, f"{number}-{when}-before-{what}.event")
+        return Copy(int(number), when, f"before-{what}", path)

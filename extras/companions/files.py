@@ -2,12 +2,15 @@
 from __future__ import annotations
 
 import contextlib
+import ctypes
 import os
 import shutil
 import time
 
 # a log that has no room for its header and for a page with the page's own header holds nothing
 LEAST_LOG = 32 + 24 + 512
+# Linux's: names are taken from this folder on, and are exchanged
+HERE, EXCHANGE = -100, 2
 
 
 def time_stamp() -> str:
@@ -39,6 +42,18 @@ def move(source: str, target: str) -> None:
         raise FileExistsError(17, "there is a file of that name", target)
     os.rename(source, target)
     sync_folder(os.path.dirname(target))
+
+
+def exchange(one: str, other: str) -> bool:
+    """Each file has the other one's name, in one step. False, if the system or the disk has no such step."""
+    try:
+        renameat2 = ctypes.CDLL(None, use_errno=True).renameat2
+    except (OSError, AttributeError):
+        return False
+    if renameat2(HERE, os.fsencode(one), HERE, os.fsencode(other), EXCHANGE) != 0:
+        return False
+    sync_folder(os.path.dirname(other))
+    return True
 
 
 def remove_with_log(file: str) -> None:

@@ -13,6 +13,11 @@ from typing import Optional
 from companions.turn import Turn
 
 
+# up to so many players so many rounds are usual; above, one more than the last
+USUAL_ROUNDS = ((8, 3), (16, 4), (32, 5), (64, 6), (128, 7), (226, 8))
+CUTS = (8, 4, 2, 0)
+
+
 @dataclass(frozen=True)
 class Plan:
     """The name, how many rounds there are, and how many players go on to the playoff, or 0."""
@@ -25,6 +30,30 @@ class Plan:
         rounds = f"{self.rounds} round{'s' if self.rounds > 1 else ''}"
         cut = f"cut to {self.cut}" if self.cut else "no cut"
         return f"Round {number} of {self.rounds}, {cut}" if number else f"{rounds}, {cut}"
+
+    def cut_for(self, players: int) -> int:
+        """The greatest cut, up to the one of the plan, for which there are enough players."""
+        return next(cut for cut in CUTS if cut <= min(self.cut, players))
+
+    def doubts(self, players: int) -> list[str]:
+        """What may go wrong with so many players: nobody meets twice, and some go home."""
+        told = []
+        half = (players + 1) // 2
+        if self.rounds > half:
+            told.append(f"With {players} players, rounds after the {ordinal(half)} may not be found.")
+        if self.cut > players - -(-players // 10):
+            told.append(f"If some of the {players} players leave, there are too few for a cut to {self.cut}.")
+        return told
+
+
+def usual_rounds(players: int) -> int:
+    """By the usual table; it is advice and no rule."""
+    return next((rounds for most, rounds in USUAL_ROUNDS if players <= most), USUAL_ROUNDS[-1][1] + 1)
+
+
+def ordinal(number: int) -> str:
+    ending = {1: "st", 2: "nd", 3: "rd"}.get(number if number < 20 else number % 10, "th")
+    return f"{number}{ending}"
 
 
 def plan_of(file: str, turn: Turn) -> Optional[Plan]:

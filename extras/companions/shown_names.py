@@ -39,7 +39,15 @@ class ShownNames:
     def keep(self, name: ShownName) -> None:
         """From now on the player is shown so. The enrolled name takes the line away."""
         others = [other for other in self.all() if other.number != name.number]
-        names = sorted([*others, name] if name.shown != name.enrolled else others)
+        self.write(sorted([*others, name] if name.shown != name.enrolled else others))
+
+    def without(self, number: int) -> None:
+        """Of a player who was removed. Those who came later have a number less."""
+        others = [other for other in self.all() if other.number != number]
+        if self.all():
+            self.write([replace(it, number=it.number - (it.number > number)) for it in others])
+
+    def write(self, names: List[ShownName]) -> None:
         beside = f"{self.path}.part"
         with open(beside, "w", encoding="utf-8", newline="\n") as written:
             written.writelines(f"{kept.number}\t{kept.enrolled}\t{kept.shown}\n" for kept in names)

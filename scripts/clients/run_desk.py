@@ -5,6 +5,7 @@ It says how many keys a round of seventeen tables takes by command lines and by 
 """
 import contextlib
 import fcntl
+import glob
 import http.server
 import importlib
 import os
@@ -218,7 +219,7 @@ def run_refusals_of_rounds(room):
     said(file, "pair", "1 2 0", "pair", "1 2 0")
     run_refusals_of_phases(f"{room}/other")
     refused_by(file, 9, "AllRoundsPaired", ["pair"], "standings, or cut")
-    refused_by(file, 21, "TooFewForCut", ["cut"], "The standings are final")
+    refused_by(file, 21, "TooFewForCut", ["cut"], "3 players are left, and the cut is to 8", "plan 3 2, and then cut")
     _, two = started(f"{room}/two", ["Ana", "Bo"])
     refused_by(two, 20, "NoCut", ["pair", "1 2 0", "cut"], "with no cut")
     refused_by(two, 10, "NoPairing", ["pair"], "The standings are final")
@@ -362,11 +363,11 @@ def run_names(room):
     check_said("a list of names that are there", said(file, f"import {path} cp1250", "n"), "It would enrol nobody.", "Nobody was enrolled.")
     check("a list, who is enrolled", read(file).names, ["Zo\u00eb", "Petr Mayer", "Cy", "Di", "cy", "Ab", "\u0141uk"])
     text = said(file, "rename 2 Peter Meyer", "players", "rename 9 X", "rename 3 di", "rename 4", "where")
-    check_said("a name before the start", text, "Petr Mayer (2) is Peter Meyer now.", f"{file}.away-", "   2   Peter Meyer", "No player has number 9", "has this name")
+    check_said("a name before the start", text, "back 1", "Petr Mayer (2) is Peter Meyer now.", "   2   Peter Meyer", "No player has number 9", "has this name")
     check_said("a name before the start, the plan", text, "as: rename 4 Peter Meyer", "7 players so far", "3 rounds, no cut")
     check("a name before the start, the file", read(file).names, ["Zo\u00eb", "Peter Meyer", "Cy", "Di", "cy", "Ab", "\u0141uk"])
-    away = [it for it in os.listdir(room) if ".away-" in it]
-    check("a name before the start, the old file", [read(f"{room}/{it}").names[1] for it in away if not it.endswith("-wal")], ["Petr Mayer"])
+    copies = [it for it in os.listdir(f"{file}.copies") if it.endswith(".event")]
+    check("a name before the start, the old file", [read(f"{file}.copies/{it}").names[1] for it in copies], ["Petr Mayer"])
     text = said(file, "start", "pair", "rename 3 Cyril", "players", "standings", "round 1", "who cyr", "drop 3", "n")
     check_said("a name after the start", text, "Cy (3) is shown as Cyril", "   3   Cyril\n", " Cyril\n", "Cyril", "   3   Cyril", "Drop Cyril (3)?")
     check("a name after the start, the file", read(file).names[2], "Cy")
@@ -423,50 +424,59 @@ def run_copies(room):
     run_back_over_the_cut(f"{room}/two")
 
 
-# the prompt, stopped right after one of the moves of `back`
+# the prompt, stopped right after one of the moves of `back`: that of two names in one step is one, if the system has it
 STOPPED = """
 import os, sys
 sys.path.insert(0, {extras!r})
 import companions.copies
-move, moves = companions.copies.move, []
-def stopping(source, target):
-    move(source, target)
-    moves.append(target)
-    if len(moves) == {stop}:
-        os._exit(9)
-companions.copies.move = stopping
+moves = []
+def stopping(move):
+    def moved(source, target):
+        answer = move(source, target)
+        moves.append(target)
+        if len(moves) == {stop}:
+            os._exit(9)
+        return answer
+    return moved
+companions.copies.move = stopping(companions.copies.move)
+companions.copies.exchange = stopping(companions.copies.exchange) if {in_one_step} else lambda *_: False
 from companions.prompt.main import main
 main()
 """
 
 
 def run_back_stopped(room):
-    """Stopped after each of the moves of `back`: nothing is lost, `init` is declined where the file is gone, and a second `back` ends it."""
+    """Stopped after each of the moves of `back`: nothing is lost, `init` is declined where the file is gone, and a second `back` ends it. Where two names are
+    exchanged in one step, the file is the old event or the new one at each moment.
+    """
     stopped = []
-    for stop in (1, 2, 3):
-        os.mkdir(f"{room}/{stop}")
-        event, file = started(f"{room}/{stop}", ["Ana", "Bo", "Cy", "Di"])
+    for stop, in_one_step in ((1, False), (2, False), (3, False), (1, True)):
+        place = f"{room}/{stop} {in_one_step}"
+        os.mkdir(place)
+        event, file = started(place, ["Ana", "Bo", "Cy", "Di"])
         said(file, "pair", "1 2 0")
         before = rows_alone(file)
-        code = STOPPED.format(extras=os.path.dirname(desk), stop=stop)
+        code = STOPPED.format(extras=os.path.dirname(desk), stop=stop, in_one_step=in_one_step)
         words = [sys.executable, "-S", "-B", "-c", code, file, "--program", program]
         ran = subprocess.run(words, input=b"back 1\ny\n", capture_output=True, timeout=60, env=LETTERS)
         stopped.append(ran.returncode)
+        if in_one_step:
+            check(f"back stopped after {stop} in one step", rows_alone(file) == rows_alone(glob.glob(f"{file}.copies/*before-pair-1.event")[0]), True)
         if not os.path.exists(file):
             text = said(file, "init Other 3 0")
             check_said(f"back stopped after {stop}", text, "The event's file is missing", "Go on from a copy: back", "copies of it are there")
         said(file, "back 1", "y")
         check(f"back stopped after {stop}, the second one", (read(file).stored, read(file).names), ([], event.names))
-        away = [rows_alone(f"{room}/{stop}/{it}") for it in os.listdir(f"{room}/{stop}") if re.fullmatch(r"e\.event\.away-\d+-\d+-\d+", it)]
+        away = [rows_alone(f"{place}/{it}") for it in os.listdir(place) if re.fullmatch(r"e\.event\.away-\d+-\d+-\d+", it)]
         check(f"back stopped after {stop}, the event in use is not lost", before in away, True)
-    check("back, stopped", stopped, [9, 9, 9])
+    check("back, stopped", stopped, [9, 9, 9, 9])
 
 
 def run_back_over_the_cut(room):
     """What came since names the cut and the scores of the playoff; `undo` names the copy."""
     event, file = started(room, ["Ana", "Bo", "Cy", "Di"], 1, 2)
     said(file, "pair", "1 2 0", "2 2 0", "drop 4", "y")
-    check_said("undo after a drop", said(file, "undo"), "There is no undo", "The last one: back 2, made before the drop of Di (4)\n")
+    check_said("undo after a drop", said(file, "undo"), "take back drop 7", "The last one: back 2, made before the drop of Di (4)\n")
     text = said(file, "cut", "y", "undo", "play final 2 1", "undo")
     check_said("undo in the playoff", text, "back 3, made before the cut\n", "back 4, made before the score of the final\n")
     check_said("back over the cut", said(file, "back 3", "y"), "The playoff was begun since. To begin it again: cut", "  play final 2 1\n")
@@ -1012,7 +1022,7 @@ def run_words(room):
         "standings 9 9": "standings 8 for the first eight",
         "standings after 3": "Round 3 is not complete",
         "xyzzy": "xyzzy is no command. See: help",
-        "undo": "There is no undo",
+        "undo": "There is no undo for all",
         "help": "17 2 1 1",
         "keys": "There is no key yet",
         "round": "refused 12 NoSuchMatch",
@@ -1104,7 +1114,7 @@ def run_plan(room):
     """Rounds and cut are said: by `init`, and by `where`."""
     file = f"{room}/e.event"
     text = said(file, "init Friday Night 6 8", "enrol Ana", "enrol Bo", "start", "pair", "where")
-    check_said("the plan", text, "6 rounds, cut to 8\n", "can't be changed later", "no round is paired yet", "6 rounds, cut to 8\n", "Round 1 of 6, cut to 8\n")
+    check_said("the plan", text, "6 rounds, cut to 8\n", "until the playoff: plan 6 8", "no round is paired yet", "6 rounds, cut to 8\n", "Round 1 of 6, cut to 8\n")
     check_said("the plan, without a cut", said(f"{room}/other.event", "init Friday 1 0", "where"), "1 round, no cut\n", "1 round, no cut\n")
     event = evening(random.Random(1), 9, IN_PLAYOFF, 2, 4, False)
     check_said("the plan, in the playoff", said(laid(program, f"{room}/playoff.event", event, "E")), "2 rounds, cut to 4\n")

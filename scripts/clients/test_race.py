@@ -78,6 +78,10 @@ help
 help all
 foo
 init Another One 3 0
+plan
+take back 999
+take back drop 999
+remove 999
 """.splitlines()
 
 

@@ -111,7 +111,7 @@ def test_a_round_that_another_window_paired_again(prompt, begun):
         prompt.said(begun, "back 2", "y", "pair")
         if [match[:2] for match in read(begun).stored[1]] != before:
             break
-    assert "Another window put another file in place, by back or rename. This is round " in unfilled(one.read_for(b"where"))
+    assert "Another window went back to a copy, or played the event again. This is round " in unfilled(one.read_for(b"where"))
     one.keys("1 2 0\r")
     check_said("it asks", one.read_for(b"(y or n) "), "meanwhile", "Round 2, table 1: ", "Is this a score of round 2? (y or n) ")
     one.send("n")

@@ -33,6 +33,7 @@ PARTS = {
     ),
     "csv": ("test_csv.py", "test_random_lists.py", "test_completions.py"),
     "windows": ("test_windows.py", "test_typing.py"),
+    "again": ("test_again.py", "test_random_changes.py"),
     "prompt": ("test_prompt.py", module("clients.run_desk", PROGRAM, "extras/desk.py", (10, 300), SEED)),
     "sheets": ("test_sheets.py", module("clients.run_sheets", PROGRAM, "extras/sheets.py", (12, 400), SEED),),
     "race": ("test_race.py",),

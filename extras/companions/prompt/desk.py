@@ -11,6 +11,7 @@ from typing import Optional
 from companions.event import Phase
 from companions.names import begun, visible
 from companions.program import FAULTS, Declined, NoAnswer, Refusal, Refused, Source
+from companions.prompt.again import Again
 from companions.prompt.evening import Evening
 from companions.prompt.lines import Input, OutOfStep
 from companions.prompt.listing import Listing
@@ -60,7 +61,7 @@ class Desk(cmd.Cmd):
         self.results, self.rounds = Results(self.session), Rounds(self.session)
         self.players, self.evening = Players(self.session), Evening(self.session)
         self.listing, self.phones = Listing(self.session), Phones(self.session)
-        self.printing = Printing(self.session)
+        self.printing, self.again = Printing(self.session), Again(self.session, self.players)
         self.news = News(self.session)
         names = self.get_names()
         self.words = sorted(name[3:] for name in names if name.startswith("do_"))
@@ -171,6 +172,15 @@ class Desk(cmd.Cmd):
 
     def do_init(self, rest: str) -> None:
         self.evening.init(rest)
+
+    def do_plan(self, rest: str) -> None:
+        self.again.plan(rest)
+
+    def do_take(self, rest: str) -> None:
+        self.again.take(rest)
+
+    def do_remove(self, rest: str) -> None:
+        self.again.remove(rest)
 
     def do_start(self, rest: str) -> None:
         only("start", rest)

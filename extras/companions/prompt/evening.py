@@ -16,6 +16,7 @@ from companions.keys import Keys
 from companions.lists import Bracket, Players, Rounds
 from companions.names import visible
 from companions.phones.codes import path_of as path_of_secret
+from companions.plan import plan_of, usual_rounds
 from companions.program import FAULTS, Declined
 from companions.prompt.lines import minutes_of, numbers_in, unbroken
 from companions.prompt.session import Command, Session
@@ -48,7 +49,7 @@ class Evening:
             keep_title(session.file, found[1])
         session.has_moved = True
         session.say_where()
-        session.say("Rounds and cut can't be changed later. If they are wrong, make another FILE.")
+        session.say(f"If rounds or cut are to be others, until the playoff: plan {found[2]} {found[3]}")
 
     def put_aside(self, path: str) -> None:
         """What lies beside FILE of an earlier event."""
@@ -87,10 +88,29 @@ class Evening:
     def start(self) -> None:
         session = self.session
         session.must_be_ours("start")
+        self.must_work_out()
         with unbroken():
             session.send(Command(("start",), lambda event: event.phase is not Phase.ENROLLING))
         session.has_moved = True
         session.say_where()
+
+    def must_work_out(self) -> None:
+        """Says what is usual for so many players, and asks if rounds or cut may not work out."""
+        session = self.session
+        players = len(session.event.enrolled)
+        plan = plan_of(session.file, session.source.turn)
+        if not plan or session.event.phase is not Phase.ENROLLING or players < 2:
+            return
+        usual = usual_rounds(players)
+        if plan.rounds != usual:
+            say_usual = f"For {players} players {usual} rounds are usual, and this event has {plan.rounds}."
+            session.say(f"{say_usual} To change it: plan {usual} {plan.cut}")
+        doubts = plan.doubts(players)
+        session.say(*doubts)
+        # a pipe can't know of the question
+        if doubts and session.lines.is_terminal and not session.lines.says_yes("Start all the same?"):
+            other = f"plan {usual} {plan.cut_for(players - 1)}"
+            raise Declined(f"Nothing was started. As: {other}, and then start")
 
     def migrate(self) -> None:
         self.session.must_be_ours("migrate")
@@ -198,7 +218,7 @@ class Evening:
             away = session.copies.put_in_place(copy)
         session.has_moved = True
         if away:
-            session.say(f"The event that was in use is {visible(away)} now.")
+            session.say(f"The event that was in use is {visible(away.path)} now.")
         session.say_where()
         if before:
             session.say(*came_since(before, session.event, session.keys))

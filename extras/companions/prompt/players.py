@@ -3,19 +3,17 @@ from __future__ import annotations
 
 import contextlib
 import difflib
-import os
 import re
-import tempfile
 from typing import Optional
 
-from companions.copies import Copy
 from companions.event import Event, Phase, shown_player
 from companions.lists import Player
 from companions.names import compared, found_by, plain, visible
-from companions.plan import plan_of
-from companions.program import Declined, OverFile
+from companions.program import Declined
 from companions.prompt.lines import unbroken
+from companions.prompt.replays import play_again
 from companions.prompt.session import Command, Session, counted
+from companions.replaying import Change
 from companions.rosters import Roster, path_and_codec, read_list, roster_of, tidy, why_not, written_list
 from companions.shown_names import ShownName
 from companions.stages import slot_shown
@@ -248,40 +246,13 @@ class Players:
         ):
             raise Declined("Nobody was renamed. Whose number is it? See: who, as: who an")
         if session.event.phase is Phase.ENROLLING:
-            self.make_again(number, name)
+            play_again(session, Change(renamed=(number, name)))
+            session.say(f"{shown_player(player)} is {visible(name)} now.")
         else:
             session.names.keep(ShownName(number, enrolled, name))
             session.look_again()
             session.say(f"{shown_player(player)} is shown as {visible(name)} from now on.")
             session.say("The program's own lists keep the name that was enrolled.")
-
-    def make_again(self, number: int, name: str) -> None:
-        """A new file with the same name, rounds, cut and players, but for the one name. The old one is put
-        away.
-        """
-        session = self.session
-        plan = plan_of(session.file, session.source.turn)
-        if not plan or not isinstance(session.source, OverFile):
-            raise Declined("Rounds and cut could not be read, so the event can't be made again. See: undo")
-        with unbroken(), session.source.turn.taken(), tempfile.TemporaryDirectory() as room:
-            # another window may have enrolled somebody while a question stood
-            session.look_again()
-            players_by_number = session.event.enrolled
-            names = [name if it.number == number else it.name for it in players_by_number.values()]
-            if session.event.phase is not Phase.ENROLLING:
-                raise Declined("The rounds were begun in another window. Type the line again.")
-            made = OverFile(session.source.program, os.path.join(room, "new.event"))
-            made.ask("init", plan.name, str(plan.rounds), str(plan.cut))
-            with written_list(names) as written:
-                made.ask("import", written)
-            if [player.name for player in made.players().values()] != names:
-                raise Declined("The event could not be made again with this name. It stays as it is.")
-            wrong = players_by_number[number]
-            away = session.copies.put_in_place(Copy(0, "", "", made.file))
-        session.has_moved = True
-        session.look_again()
-        session.say(f"{shown_player(wrong)} is {visible(name)} now.")
-        session.say(f"The event with the wrong name is {away} now.")
 
 
 def have_a_word_in_common(one: str, other: str) -> bool:

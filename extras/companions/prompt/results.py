@@ -47,7 +47,7 @@ class Results:
             when = session.time_of_pairing(now.number).rstrip(",")
             session.say(f"Round {now.number} was paired meanwhile{when}, in another window.")
         else:
-            session.say("Another window put another file in place meanwhile, by back or rename.")
+            session.say("Another window went back to a copy meanwhile, or played the event again.")
         session.say(f"Round {now.number}, table {table}: {event.shown(match, '-'.join(score))}")
         if not session.lines.says_yes(f"Is this a score of round {now.number}?"):
             raise Declined(self.of_the_round_before(table, shown.number, now.number))
@@ -135,7 +135,8 @@ class Results:
         session, newest = self.session, len(self.session.event.rounds)
         match = session.event.match(number, table)
         is_a_table = len(words) == 4 and session.event.match(newest, words[0])
-        other = f"\nFor table {number} of round {newest}: fix {newest} {' '.join(words)}" if is_a_table else ""
+        line = f"fix {newest} {' '.join(words)}"
+        other = f"\nFor table {number} of round {newest}: {line}" if is_a_table else ""
         if not match and other:
             raise Declined(f"Round {number} has no table {table}.{other}")
         if not match or match.is_bye or match.is_open or (number == newest and len(words) != 4):

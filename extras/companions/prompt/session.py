@@ -43,6 +43,8 @@ from companions.stages import slot_shown, slot_typed
 from companions.title import event_name, kept_title
 
 WIDTH = 79
+# neither `pair` nor `cut` goes on
+DEAD_ENDS = (Refusal.NO_PAIRING, Refusal.ROUNDS_NOT_DONE, Refusal.TOO_FEW_FOR_CUT)
 # who types when something is told has not read it by then
 SECONDS_TO_READ = 3
 
@@ -65,6 +67,8 @@ class Session:
         # what the prompt has shown of the event, when, and what it knows; and whether it went on itself since
         self.shown, self.shown_at, self.known = Progress(), -math.inf, Progress()
         self.has_moved = False
+        # where no further round was found
+        self.stuck: Optional[Progress] = None
         # the round in which it was said that no second copy can be made
         self.round_without_copy: Optional[int] = None
 
@@ -105,7 +109,7 @@ class Session:
         before = self.known
         if now.inode != before.inode:
             here = f" This is round {now.number} now." if now.number else ""
-            return [f"Another window put another file in place, by back or rename.{here} See: where"]
+            return [f"Another window went back to a copy, or played the event again.{here} See: where"]
         if now.is_cut and not before.is_cut:
             return ["The playoff was begun in another window. See: bracket"]
         if now.number > before.number:
@@ -170,6 +174,8 @@ class Session:
             return MISSING
         if refused.number == Refusal.STORE:
             return why_not_used(self.file)
+        if refused.number in DEAD_ENDS and not self.source.is_served:
+            return self.way_out_of(refused.number)
         if refused.number == Refusal.NOT_SWISS:
             phase = self.phase_or_none()
             return {**NOT_SWISS, **(NOBODY_DROPS if word == "drop" else {})}.get(phase, "")
@@ -178,6 +184,39 @@ class Session:
         if refused.number == Refusal.BAD_SETUP:
             return BAD_SETUP if word == "init" else LATE_IN_VERSION_1 if word in ("enrol", "import") else ""
         return ""
+
+    def way_out_of(self, number: int) -> str:
+        """What helps where neither `pair` nor `cut` goes on."""
+        self.look_again()
+        plan = plan_of(self.file, self.source.turn)
+        if not plan or self.event.phase is not Phase.SWISS:
+            return ""
+        stored, cut = len(self.event.rounds), plan.cut_for(self.players_left())
+        end_here = f"plan {stored} {cut}"
+        if number == Refusal.NO_PAIRING:
+            self.stuck = self.event.progress
+            playoff = f"To end the rounds here and go on to the playoff: {end_here}, and then cut"
+            final = "The standings are final as they are: standings"
+            return (
+                "In each further round two would meet again, or one would have a second bye.\n"
+                f"{playoff if cut else final}\n"
+                "Or enter somebody who is not there and whom nobody has met: enrol Nobody"
+            )
+        if number == Refusal.TOO_FEW_FOR_CUT:
+            smaller = f"For a smaller cut: plan {plan.rounds} {cut}, and then cut"
+            return (
+                f"{self.players_left()} players are left, and the cut is to {plan.cut}.\n"
+                f"{smaller if cut else 'The standings are final: standings'}"
+            )
+        if self.event.open_tables() or stored == plan.rounds or not stored:
+            return ""
+        return (
+            f"Round {stored + 1} of {plan.rounds} is not paired yet. Next: pair\n"
+            f"To end the rounds here: {end_here}, and then cut"
+        )
+
+    def players_left(self) -> int:
+        return sum(not player.has_dropped for player in self.event.enrolled.values())
 
     def phase_or_none(self) -> Optional[Phase]:
         self.look_again()
@@ -216,7 +255,24 @@ class Session:
         """What comes next, and the scores that are in doubt."""
         doubts = [f"{doubt.number} {doubt.table}" for doubt in self.standing_doubts()]
         doubted = f". In doubt by round and table: {', '.join(doubts)}. See: doubt" if doubts else ""
-        return next_step(self.event) + doubted
+        return (self.dead_end() or next_step(self.event)) + doubted
+
+    def dead_end(self) -> str:
+        """Where neither `pair` nor `cut` goes on, as far as it is known; or nothing."""
+        event, number = self.event, len(self.event.rounds)
+        if not number or event.open_tables() or self.source.is_served or event.phase is not Phase.SWISS:
+            return ""
+        plan, left = plan_of(self.file, self.source.turn), self.players_left()
+        if not plan:
+            return ""
+        done, cut = f"round {number} has all its scores", plan.cut_for(left)
+        if number < plan.rounds and self.stuck == event.progress:
+            end_here = f"plan {number} {cut}, and then cut" if cut else "standings"
+            return f"{done}. No further round can be paired. Next: {end_here}"
+        if number == plan.rounds and left < plan.cut:
+            way = f"plan {plan.rounds} {cut}, and then cut" if cut else "standings"
+            return f"{done}. Of the players {left} are left, too few for a cut to {plan.cut}. Next: {way}"
+        return ""
 
     def two_scores(self) -> list[TwoScores]:
         """The tables of the newest round at which a phone says what isn't stored."""

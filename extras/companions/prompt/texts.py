@@ -12,9 +12,9 @@ COMMANDS = """\
   17 2 1 drop 12     and player 12 drops, by the same slip; it asks back
   open, where        the tables that have no score yet; where the event is
   fix 17 0 2         replaces the score of table 17; of round 1: fix 1 17 0 2
+  take back 9        the score of table 9: it is open again
   doubt 9            keeps in mind that the score of table 9 is wrong, until fix
-  pair, pair 50      copies the event, and pairs the next round by a new key;
-                     starts the clock for 50 minutes too
+  pair, pair 50      pairs the next round by a new key; starts the clock too
   drop 23, drop Ana  drops a player; it asks back
   who an, who 12     finds players by a part of the name, or by the number
   players, round, round 3
@@ -36,6 +36,7 @@ BEGINNING = """\
   rename 4 Ana Lima    gives player 4 the right name
   players, who an      lists the players; finds some by a part of the name
   print seats          a sheet for the players' meeting
+  plan 6 8, remove 4   other rounds and another cut; takes a player out
   start                begins the rounds, once everybody is there
   pair, pair 50        then: pairs the first round; starts the clock too
   copy, copy PATH      copies the event now; to a folder, as of a stick, too
@@ -48,6 +49,7 @@ PLAYOFF = """\
                      named first, and by the second. It can't be corrected
   play sf1 2 0, play final 2 1
                      of a semifinal, and of the final
+  take back qf2      the score of quarterfinal 2: it is open again
   bracket, open      the playoff; its matches that have no score yet
   where              where the event is
   final, final 8     the final ranking, once there is a champion; the first 8
@@ -65,7 +67,10 @@ MORE_COMMANDS = """\
   import names.csv     enrols the players of a list; it shows them and asks back
   rename 4 Ana Lima    gives player 4 the right name; after the start, for what
                        this prompt, sheets and board show
+  plan, plan 6 8       rounds and cut; other ones, until the playoff
   start                begins the rounds
+  take back drop 7     player 7 has not dropped, if no round was paired since
+  remove 38            takes a player out who was never paired
   pair again           pairs by the key that FILE.keys has for it; see back
   copy                 copies the event now, and checks the copy
   copy /media/stick    the same to that folder too, and from now on each copy;
@@ -92,14 +97,17 @@ hyphens or TABs.
 ALL_COMMANDS = COMMANDS + MORE_COMMANDS
 
 UNDO = """\
-There is no undo: what was answered ok is in the file, and stays.
+There is no undo for all, but there is a way back from most:
   A result:    fix TABLE X Y, as: fix 17 0 2; of round 1: fix 1 17 0 2
-  A result that belongs to another table:
-               doubt 9, until the right one is there: fix 9 2 1
-  A drop, a pairing, the cut, a score of the playoff:
+  A result that belongs to another table: take back 9
+               if the right one isn't known yet: doubt 9
+  A drop:      take back drop 7, until the next round is paired
+  A score of the playoff: take back qf2
+  A pairing, the cut, and what is older:
                go on from the copy that was made before it: back
-  A player who doesn't play: is dropped after the start
+  A player who was never paired: remove 38; who was: drop 12
   A name that is wrong: rename 4 Ana Lima
+  Rounds and cut: plan 6 8
 """
 
 # in place of the words of refusal 27
@@ -144,8 +152,8 @@ REFUSALS = {
     8: "A table of the newest round has no score. Enter it, and then: pair",
     9: "All rounds are paired, and nobody enrols any more.\n"
     "Enter what is missing, and then: standings, or cut",
-    10: "The players who are left have met, so no further round can be paired.\n"
-    "The standings are final: standings",
+    10: "In each further round two would meet again, or one would have a second bye.\n"
+    "The standings are final as they are: standings",
     11: "No pairing was found in a million steps. Take another key: pair new",
     12: "No such match is stored. See: round, or bracket",
     13: "No match ends so. Each player wins 2 games at most, and not both 2; at most 3\n"

@@ -1,0 +1,186 @@
+"""The event played again: other rounds or another cut, and a score, a drop, a player or a name that is taken back. What comes out differs from what was
+there in that alone, or nothing is done.
+"""
+import os
+
+import pytest
+
+from scripts.clients.event_files import rows_alone, rows_of
+from scripts.clients.prompt import check_said, match_shown, unfilled
+from scripts.models.plain_file import read
+
+NAMES = tuple(f"P{number}" for number in range(1, 9))
+
+
+def lists(program, file):
+    """Players, results, standings and bracket, to the byte."""
+    return [program.did(*words) for words in (("export", file, "players"), ("export", file, "results"), ("standings", file), ("bracket", file))]
+
+
+def is_as_it_was(file, rows):
+    return rows_alone(file) == rows
+
+
+@pytest.fixture
+def played(prompt, started):
+    """Two rounds of eight players, with a drop, a late entry and a correction; the second round is complete."""
+    _, file = started(*NAMES, rounds=5, cut=4)
+    prompt.said(file, "pair", "1 2 0", "2 2 1", "3 0 2", "4 1 1 1", "fix 1 0 2", "drop 8", "y", "enrol Late, Lou", "y")
+    prompt.said(file, "pair", "1 2 0", "2 2 0", "3 2 1", "4 2 0", "fix 1 2 1 0 2", "y")
+    return file
+
+
+# ---- other rounds, another cut
+
+
+def test_plan_keeps_each_list(prompt, program, played):
+    before = lists(program, played)
+    text = prompt.said(played, "plan 4 2")
+    check_said("plan", text, "Round 1 of 2 is played again.", "Round 2 of 2 is played again.", "To have it as it was: back ", "Round 2 of 4, cut to 2")
+    assert lists(program, played) == before
+    assert (read(played).rounds, read(played).cut) == (4, 2)
+    text = prompt.said(played, "back")
+    check_said("the copy from before it", text, "before the new plan")
+
+
+def test_plan_before_the_start(prompt, program, room):
+    file = f"{room}/e.event"
+    text = prompt.said(file, "init E 5 4", "enrol Ana", "enrol Bo", "plan", "plan 3 0", "plan 0 4", "plan 3 5", "plan 13 0")
+    check_said("plan", text, "5 rounds, cut to 4", "plan 5 4", "3 rounds, no cut", "There are 1 to 12 rounds here", "a cut of 0, 2, 4 or 8", "There are 1 to 12 rounds")
+    assert (read(file).rounds, read(file).cut, read(file).names) == (3, 0, ["Ana", "Bo"])
+    prompt.said(file, "start", "plan 4 2")
+    assert (read(file).rounds, read(file).phase) == (4, 1)
+
+
+def test_plan_of_fewer_rounds_than_there_are(prompt, played):
+    rows = rows_alone(played)
+    check_said("plan", prompt.said(played, "plan 1 4"), "There are 2 to 12 rounds here")
+    prompt.said(played, "enrol Later")
+    rows = rows_alone(played)
+    check_said("nobody is left out", prompt.said(played, "plan 2 4"), "Somebody came after round 2 was paired, and would be in none.", "The event stays as it is.")
+    assert is_as_it_was(played, rows)
+
+
+def test_plan_without_a_copy_of_a_round(prompt, played):
+    """The event stays as it is."""
+    rows = rows_alone(played)
+    (copy,) = [name for name in os.listdir(f"{played}.copies") if "before-pair-1" in name]
+    os.rename(f"{played}.copies/{copy}", f"{played}.copies/hidden")
+    check_said("plan", prompt.said(played, "plan 4 2"), "Round 1 can't be played again", "The event stays as it is.")
+    assert is_as_it_was(played, rows)
+    os.rename(f"{played}.copies/hidden", f"{played}.copies/{copy}")
+    with open(f"{played}.copies/{copy}", "r+b") as it:
+        it.truncate(4096)
+    check_said("of a damaged one", prompt.said(played, "plan 4 2"), "Round 1 can't be played again")
+    assert is_as_it_was(played, rows)
+
+
+def test_the_dead_end_of_an_event_that_can_not_be_paired(prompt, started):
+    """Four players who all have met, a fourth round due, and a cut: `pair`, `cut` and `where` name the way out."""
+    _, file = started("Ana", "Bo", "Cy", "Di", rounds=4, cut=2)
+    for _ in range(3):
+        prompt.said(file, "pair", "1 2 0", "2 2 1")
+    text = prompt.said(file, "pair", "cut", "where")
+    way = "plan 3 2, and then cut"
+    check_said("the way out", unfilled(text), "two would meet again", way, "(refused 10 NoPairing)", way, "(refused 19 RoundsNotDone)", "No further round can be paired. Next: plan 3 2")
+    check_said("it leads to the playoff", prompt.said(file, "plan 3 2", "cut", "y", "where"), "The playoff would begin so:", "final")
+
+
+def test_the_dead_end_of_too_few_for_the_cut(prompt, started):
+    _, file = started(*NAMES[:5], rounds=1, cut=4)
+    prompt.said(file, "pair", "1 2 0", "2 2 0", "drop 1 2", "y")
+    text = prompt.said(file, "where", "cut")
+    check_said("the way out", unfilled(text), "3 are left, too few for a cut to 4. Next: plan 1 2", "3 players are left, and the cut is to 4.", "plan 1 2, and then cut", "(refused 21 TooFewForCut)")
+    check_said("it leads to the playoff", prompt.said(file, "plan 1 2", "cut", "y"), "The playoff would begin so:")
+
+
+def test_start_says_what_is_usual(prompt, room):
+    file = f"{room}/e.event"
+    prompt.said(file, "init E 6 8", *(f"enrol {name}" for name in NAMES))
+    terminal = prompt.terminal(file)
+    text = terminal.send("start")
+    pieces = ["For 8 players 3 rounds are usual, and this event has 6.", "plan 3 8", "rounds after the 4th may not be found", "too few for a cut to 8", "Start all the same?"]
+    check_said("it asks", unfilled(text), *pieces)
+    check_said("no", terminal.send("n"), "Nothing was started. As: plan 3 4, and then start")
+    check_said("plan", terminal.send("plan 3 4"), "3 rounds, cut to 4")
+    check_said("nothing is asked", terminal.send("start"), "ok ")
+    assert terminal.end()[0] == 0
+    assert read(file).phase == 1
+
+
+# ---- what is taken back
+
+
+def test_a_score_is_taken_back(prompt, played):
+    event = read(played)
+    match = event.stored[1][2]
+    text = prompt.said(played, "take back 3", "n", "take back 3", "y", "open")
+    shown = f"Round 2, table 3: {match_shown(event, match, match[2])}"
+    check_said("it asks", unfilled(text), f"{shown}. Take this score back? (y or n) n", "Nothing was taken back.", "(y or n) y", "To have it as it was: back ", "is open again.", "   3  ".strip())
+    event.stored[1][2][2] = None
+    after = read(played)
+    assert (after.stored, after.names, after.dropped) == (event.stored, event.names, event.dropped)
+    prompt.said(played, "3 2 1")
+    assert read(played).stored[1][2][2] == (2, 1, 0)
+
+
+def test_a_score_that_is_entered_again_gives_the_old_lists(prompt, program, played):
+    before = lists(program, played)
+    prompt.said(played, "take back 2", "y", "2 2 0")
+    assert lists(program, played) == before
+
+
+def test_what_has_no_score_to_take_back(prompt, played):
+    rows = rows_alone(played)
+    text = prompt.said(played, "take back 9", "take back 0", "take back", "take", "take back x", "take back qf1")
+    check_said("it says so", text, "Round 2 has no table 9", "Round 2 has no table 0", *["Type what is to be taken back:"] * 4)
+    assert is_as_it_was(played, rows)
+    prompt.said(played, "take back 1", "y")
+    check_said("an open one", prompt.said(played, "take back 1"), "Table 1 of round 2 is open")
+
+
+def test_a_drop_is_taken_back(prompt, program, played):
+    before = lists(program, played)
+    prompt.said(played, "drop 1", "y")
+    text = prompt.said(played, "take back drop 1", "take back drop 2", "take back drop 8")
+    check_said("it is", text, "P1 (1) is in again.", "P2 (2) has not dropped", "The event stays as it is.")
+    assert lists(program, played) == before
+
+
+def test_a_player_is_removed(prompt, program, played):
+    """One who came late and was not paired. Whoever came after has a number less, and keeps the name that is shown."""
+    before = lists(program, played)
+    text = prompt.said(played, "enrol Wrong", "enrol Right", "rename 11 Righter", "remove 10", "y", "remove 1", "remove 77")
+    check_said("removed", text, "Remove Wrong (10), as if never enrolled? (y or n) y", "Wrong (10) is removed.", "P1 (1) was paired. Who goes home drops: drop 1", "No player has number 77")
+    assert read(played).names[9:] == ["Right"]
+    check_said("the shown name", prompt.said(played, "players"), "  10   Righter")
+    prompt.said(played, "remove 10", "y")
+    assert lists(program, played) == before
+
+
+def test_a_player_is_removed_before_the_start(prompt, room):
+    file = f"{room}/e.event"
+    prompt.said(file, "init E 3 0", *(f"enrol {name}" for name in ("Ana", "Bo", "-x", "Lima, Ed")), "y", "remove 2", "y")
+    assert read(file).names == ["Ana", "-x", "Lima, Ed"]
+
+
+def test_scores_of_the_playoff_are_taken_back(prompt, program, played):
+    prompt.said(played, "plan 2 4", "cut", "y", "play sf1 2 0", "play sf2 0 2")
+    before = lists(program, played)
+    prompt.said(played, "play final 2 1")
+    check_said("an earlier one", prompt.said(played, "take back sf1"), "A match of a later stage has its score already.")
+    text = prompt.said(played, "take back final", "y")
+    check_said("the final", text, "Take this score back? (y or n) y", "To have it as it was: back ", "Open: final. Next: play final 2 0")
+    assert lists(program, played) == before
+    check_said("a semifinal", prompt.said(played, "take back sf1", "y", "open"), "Open: semifinal 1", "semifinal 1  ")
+    assert [score for _, _, score in read(played).stages[0]] == [None, (0, 2, 0)]
+    prompt.said(played, "play sf1 2 0")
+    assert lists(program, played) == before
+
+
+def test_nothing_is_taken_back_while_serve_has_the_file(prompt, played, serve):
+    rows = rows_of(read(played), "E")
+    served = serve(played, 1)
+    check_said("declined", prompt.said(played, "plan 4 4"), "refused 25 Store")
+    served.kill()
+    assert is_as_it_was(played, rows)
