@@ -73,7 +73,7 @@ def test_without_a_word_it_is_all_that_there_is(tmp_path, dice, way):
     ("standings names", ["standings", "names"]),
     ("pairings", ["tables", "names"]),
     ("seats", ["seats"]),
-    ("all", ["tables", "names", "slips", "standings"]),
+    ("all", ["tables", "names", "slips"]),
 ])
 def test_parts_that_are_named(tmp_path, dice, rest, parts):
     event = evening(dice, 11, STARTED, 3, 0)
@@ -102,8 +102,8 @@ def test_the_final_ranking(tmp_path, dice):
     (COMPLETE, "bracket", "Next: cut"),
     (COMPLETE, "final", "There is no champion yet. Until then: print standings"),
     (COMPLETE, "players", "print names"),
-    (OPEN, "badges", "There is no badges to print. There are players, tables, names, slips, standings, "
-                     "bracket, final, seats,\nas: print slips"),
+    (OPEN, "badges", "There is no badges to print. As: print slips. There are\n"
+                     "players, tables, names, slips, standings, bracket, final, seats."),
     (OPEN, "tables 4", "as: print slips 4 17"),
     (OPEN, "4", "as: print slips 4 17"),
     (OPEN, "slips 9999", "There is no 9999"),

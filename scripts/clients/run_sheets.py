@@ -82,17 +82,17 @@ def check_alone(name, text, page):
     check(f"{name}, its letters", text.count("\ufffd") + text.count("\r"), 0)
 
 
-def check_page(name, page, event, number, title, is_board=False, has_bracket=True):
+def check_page(name, page, event, number, title, is_board=False, has_bracket=True, names_a_round=False):
     """Each list of a page beside the plain reading."""
     parts = page.parts()
-    due = parts_due(event, number, is_board, has_bracket)
+    due = parts_due(event, number, is_board, has_bracket, names_a_round)
     check(f"{name}, parts", list(parts), due)
     if list(parts) != due:
         return
     if "players" in parts:
         due = sorted((it, str(at)) for at, it in enumerate(event.names, 1))
         check(f"{name}, players", sorted((name, number) for number, name in shown_rows(parts["players"])), due)
-    if number:
+    if "tables" in parts:
         check(
             f"{name}, by table",
             (heading(parts["tables"]), shown_rows(parts["tables"])),
@@ -131,9 +131,10 @@ def check_event(name, file, event, dice):
     title = f"Evening {dice.choice(HOSTILE)}"[:40].strip()
     laid(program, file, event, "E")
     check_page(name, page_of(name, file, "--title", title), event, len(event.stored), title)
-    if len(event.stored) > 1:
-        number = dice.randint(1, len(event.stored) - 1)
-        check_page(f"{name}, round {number}", page_of(name, file, "--round", str(number), "--title", title), event, number, title)
+    if event.stored:
+        number = dice.randint(1, len(event.stored))
+        page = page_of(name, file, "--round", str(number), "--title", title)
+        check_page(f"{name}, round {number}", page, event, number, title, names_a_round=True)
     board = page_of(f"{name}, board", file, "--board", "--title", title)
     check_page(f"{name}, board", board, event, len(event.stored), title, is_board=True)
     check(
@@ -406,19 +407,23 @@ def run_paper(room, dice, browser):
     large = evening(dice, 256, STARTED, 3, 0)
     large.pair(1, bytes(32))
     large.names[: len(PLAIN)] = PLAIN
-    for name, event in (("a finished event", finished), ("a large event", large)):
+    lists = ["tables", "names", "slips", "standings"]
+    for name, event, words, parts in (
+        ("a finished event", finished, ["--round", "4"], parts_due(finished, 4, names_a_round=True)),
+        ("a large event", large, ["--parts", ",".join(lists)], lists),
+    ):
         file = laid(program, f"{room}/{len(event.names)}.event", event, "E")
-        _, text, _ = printed(file, "--title", "Friday Night")
+        _, text, _ = printed(file, "--title", "Friday Night", *words)
         for size in SIZES:
-            check_paper(f"{name} on {size}", Paper(browser, room, text, size), event, size)
+            check_paper(f"{name} on {size}", Paper(browser, room, text, size), event, size, parts)
 
 
-def check_paper(name, paper, event, size):
+def check_paper(name, paper, event, size, parts):
     number = len(event.stored)
     kinds = paper.kinds()
     width, height = paper.size()
     check(f"{name}, the paper", max(abs(width - SIZES[size][0]), abs(height - SIZES[size][1])) <= 1, True)
-    check(f"{name}, each part on sheets of its own", [it for at, it in enumerate(kinds) if at == 0 or kinds[at - 1] != it], parts_due(event, number))
+    check(f"{name}, each part on sheets of its own", [it for at, it in enumerate(kinds) if at == 0 or kinds[at - 1] != it], parts)
     check(f"{name}, nothing beyond the margins", paper.outside(), [])
     of = {kind: [joined(text) for text, it in zip(paper.sheets, kinds) if it == kind] for kind in set(kinds)}
     for kind, rows in (

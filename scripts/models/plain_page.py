@@ -246,18 +246,20 @@ def rounds_counted(event):
     return sum(all(score for _, _, score in matches) for matches in event.stored)
 
 
-def parts_due(event, number, is_board=False, has_bracket=True):
-    """The parts of a page, in their order."""
+def parts_due(event, number, is_board=False, has_bracket=True, names_a_round=False):
+    """The parts of a page, in their order. On paper there are no standings before a round is complete, and in the playoff no tables of the last round,
+    unless a round is named.
+    """
     if is_board and event.stages and has_bracket:
         return ["bracket", "standings", "names", "tables"]
     due = []
     if not event.stored:
         due.append("players")
-    if number:
+    if number and (is_board or not event.stages or not has_bracket or names_a_round):
         due += ["names", "tables"] if is_board else ["tables", "names"]
     if not is_board and slips_due(event, number, ""):
         due.append("slips")
-    if event.stored:
+    if event.stored and (is_board or rounds_counted(event)):
         due.append("standings")
     if event.stages and has_bracket:
         due.append("bracket")

@@ -47,7 +47,7 @@ def kinds_named(word: str) -> Tuple[str, ...]:
     if word in OTHER_WORDS:
         return OTHER_WORDS[word]
     there = ", ".join(PARTS)
-    raise Declined(f"There is no {visible(word)} to print. There are {there},\nas: print slips")
+    raise Declined(f"There is no {visible(word)[:40]} to print. As: print slips. There are\n{there}.")
 
 
 def opens(path: str) -> bool:

@@ -42,8 +42,10 @@ hand in (event-phones), each slip of the newest round has its code.
 
 EXAMPLES = """\
 parts: players (until a round is paired), tables, names, slips, standings,
-bracket, final. All that there are, unless --parts names some. One more, seats,
-is made where it is named: two players a table by name, for a players' meeting.
+bracket, final. All that are of use now, unless --parts names some: standings
+once a round is complete; tables and names until the playoff begins, or by
+--round. One more, seats, is made where it is named: two players a table by
+name, for a players' meeting.
 
 examples:
   event-sheets friday.event

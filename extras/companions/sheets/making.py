@@ -3,7 +3,7 @@ from __future__ import annotations
 
 import time
 from dataclasses import dataclass
-from typing import Callable, FrozenSet, Optional, Sequence
+from typing import Callable, FrozenSet, List, Optional, Sequence
 
 from companions.clock import kept_clock
 from companions.event import Event
@@ -54,6 +54,15 @@ def number_of(wanted: Wanted, event: Event) -> int:
     return wanted.round
 
 
+def kinds_now(event: Event, names_a_round: bool = False) -> List[str]:
+    """The parts of paper that are of use now: no standings before a round is complete, and in the playoff no
+    tables of the last round, unless they are asked for by its number.
+    """
+    has_standings, is_in_rounds = event.complete_rounds() > 0, not event.stages or names_a_round
+    of_use = {"standings": has_standings, "tables": is_in_rounds, "names": is_in_rounds}
+    return [kind for kind in DEFAULT_PARTS if of_use.get(kind, True)]
+
+
 def page_maker(wanted: Wanted) -> Callable[[Event], str]:
     """What makes the page of an event as it is. Jinja2 is loaded here, so that all else goes without."""
     from companions.sheets.page import Board, open_tables_of, parts_for, parts_of_board, rendered, turn_now
@@ -70,7 +79,8 @@ def page_maker(wanted: Wanted) -> Callable[[Event], str]:
 
     def make(event: Event) -> str:
         number = number_of(wanted, event)
-        kinds = wanted.parts or (parts_of_board(event) if wanted.is_board else DEFAULT_PARTS)
+        default = parts_of_board(event) if wanted.is_board else kinds_now(event, wanted.round is not None)
+        kinds = wanted.parts or default
         parts = parts_for(event, number, kinds, SlipsFor(wanted.tables, kept_secret(wanted.file)))
         if not parts and not wanted.may_be_empty:
             raise Declined(NOTHING.get(kinds[0], "There is nothing to print yet."))
