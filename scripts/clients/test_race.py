@@ -126,7 +126,7 @@ class Window(Terminal):
     """A prompt in a terminal of its own. `round` is the one that it shows."""
 
     def __init__(self, words, name):
-        self.name, self.words, self.prompt, self.round, self.slips = name, words, "", 0, []
+        self.name, self.words, self.round, self.slips = name, words, 0, []
         super().__init__(words, HEADLESS)
         self.look(self.began)
 
@@ -141,13 +141,9 @@ class Window(Terminal):
         return answer.decode().replace("\r\n", "\n")
 
     def look(self, said):
-        """Which round is shown: by the prompt, or where that never says it, by what was said last."""
-        self.prompt = ["", *re.findall(r"(?:^|\n)(desk|playoff|r\d+)> ", said)][-1] or self.prompt
-        named = re.findall(r"[Rr]ound (\d+)(?:,| has)", said)
-        if self.prompt.startswith("r"):
-            self.round = int(self.prompt[1:])
-        elif named:
-            self.round = int(named[-1])
+        """Which round the last prompt shows. That of the playoff names none."""
+        shown = re.findall(r"(?:^|\n)(?:desk|playoff|r(\d+))> ", said)
+        self.round = int(shown[-1] or 0) if shown else self.round
 
     def drain(self):
         """What came in above the line since the last one was answered."""
@@ -303,9 +299,6 @@ class Race:
             is_taken = re.search(r"\bok \d+", move.said) or re.fullmatch(r"303 (?!.*said=).*", move.said)
             if move.slip and is_taken and len(moves) == 1:
                 assert move.slip.is_stored_in(self.event), self.story(f"{move.slip} was said to be stored")
-            if move.line.startswith("pair") and is_taken and move.who.prompt == "desk":
-                # who pairs reads the tables of the round
-                move.who.round = len(self.event.stored)
             self.put_away(move)
         self.deal()
 
