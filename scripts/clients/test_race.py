@@ -31,7 +31,7 @@ from scripts.models.plain_page import Page, shown_standings, standings_due
 from scripts.models.random_play import random_playoff_score, random_score
 
 # of windows alone, and with phones and a board beside them
-CASES = {"evening": (3, 150), "crowded": (2, 80)}
+CASES = {"evening": (2, 150), "crowded": (2, 80)}
 TITLE = "Friday <Night>"
 PATIENCE = 40
 MOST_STEPS = 400
@@ -348,16 +348,16 @@ class Race:
                 self.hand_out(Slip(number, table, first, second, lawful(self.dice, random_score, is_of_swiss)))
 
     def hand_out(self, slip):
-        holders = self.dice.sample(self.windows, 2 if self.dice.random() < 0.4 else 1)
+        holders = self.dice.sample(self.windows, 2 if self.dice.random() < 0.6 else 1)
         for window in holders:
             window.slips.append(slip)
         if self.phones and self.dice.random() < 0.5:
             said = lawful(self.dice, random_score, is_of_swiss) if self.dice.random() < 0.1 else slip.score
             self.scanned.append(replace(slip, score=said))
 
-    def enter(self, window):
+    def enter(self, window, slip=None):
         """A slip, as somebody types it who sees which round the window shows."""
-        slip = self.dice.choice(window.slips)
+        slip = slip or self.dice.choice(window.slips)
         x, y, d = slip.score
         counts = f"{x} {y} {d}" if d else self.dice.choice((f"{x} {y}", f"{x}-{y}", f"{x},{y}", f"{x} {y} 0"))
         line, acts = f"{slip.table} {counts}", [slip.enters()]
@@ -372,6 +372,17 @@ class Race:
             return question.startswith("Drop ") or slip.is_meant(said)
 
         return Move(window, line, tuple(acts), says_yes, slip)
+
+    def come_late(self, before):
+        """Right after the round has changed, a slip of the round before comes to a window that shows that one still."""
+        behind = [it for it in self.windows if 0 < it.round <= len(before.stored) and it.round != len(self.event.stored)]
+        if behind:
+            window = self.dice.choice(behind)
+            tables = [(table, *match) for table, match in enumerate(before.stored[window.round - 1], 1) if match[1]]
+            table, first, second, score = self.dice.choice(tables)
+            slip = Slip(window.round, table, first, second, score or lawful(self.dice, random_score, is_of_swiss))
+            window.slips.append(slip)
+            self.do(self.enter(window, slip))
 
     def correct(self, window):
         """A score of some round that was wrong, in one of the ways to type it."""
@@ -502,7 +513,8 @@ class Race:
         if event.phase == SWISS:
             is_open = event.is_open()
             found += [(self.correct, 1.2 if event.stored else 0), (self.drop, 0.4 if self.can_drop() else 0), (self.enrol, 0.3)]
-            found += [(self.pair, 0.2 if is_open or len(event.stored) == event.rounds else 7), (self.cut, 0.2 if is_open else 2)]
+            # who pairs doesn't wait for slips whose score is there already
+            found += [(self.pair, 0.2 if is_open or len(event.stored) == event.rounds else 20), (self.cut, 0.2 if is_open else 2)]
         if event.phase == PLAYOFF:
             found += [(self.play, 10)]
         return found
@@ -524,7 +536,10 @@ class Race:
         # each of two that go back, or of two that rename, would undo the other one's
         if len(moves) > 1 and sum(move.line.split()[0] in ("back", "rename", "import") for move in moves) > 1:
             moves = moves[:1]
+        before = self.event
         self.do(*moves)
+        if len(self.event.stored) != len(before.stored) and dice.random() < 0.7:
+            self.come_late(before)
         if dice.random() < 0.03:
             window = dice.choice(self.windows)
             assert window.leave(dice.choice(("quit\r", "exit\r")))[0] == 0, f"{window.name} ends"
