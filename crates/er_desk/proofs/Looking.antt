@@ -78,6 +78,7 @@ module _ {S : Type 0} (g : Ghosts S) (a b : Store S g) (runs : IsFalse (tables.n
     waits = λ stopped. absurd (true≢false (sym stopped ∙ runs));
     stops = λ runs. two.stops (one.stops runs);
     version = two.version ∙ one.version;
+    limit = two.limit ∙ one.limit;
     clean = λ clean. one.clean (two.clean clean);
     same = λ clean. ok_weaker r
         (unchanged_then (tables.store_state g a) (tables.store_state g b) (tables.store_state g c) (one.same (two.clean clean)))
@@ -95,6 +96,7 @@ module _ {S : Type 0} (g : Ghosts S) (a b : Store S g) (runs : IsFalse (tables.n
     waits = λ stopped. absurd (true≢false (sym stopped ∙ runs));
     stops = λ runs. inr (one.stops runs);
     version = one.version;
+    limit = one.limit;
     clean = one.clean;
     same = λ clean. tt;
     kept = one.kept;
@@ -108,6 +110,7 @@ module _ {S : Type 0} (g : Ghosts S) (a b : Store S g) (runs : IsFalse (tables.n
     waits = λ stopped. absurd (true≢false (sym stopped ∙ runs));
     stops = one.stops;
     version = one.version;
+    limit = one.limit;
     clean = one.clean;
     same = one.same;
     kept = λ clean. tt;
@@ -121,6 +124,7 @@ module _ {S : Type 0} (g : Ghosts S) (a b : Store S g) (runs : IsFalse (tables.n
     waits = λ stopped. absurd (true≢false (sym stopped ∙ runs));
     stops = λ runs. inl (refl, one.stops runs);
     version = one.version;
+    limit = one.limit;
     clean = one.clean;
     same = λ clean. tt;
     kept = λ clean. unchanged_keeps (tables.store_state g a) (tables.store_state g b) (one.same clean);
@@ -139,6 +143,7 @@ module _ {S : Type 0} (g : Ghosts S) (a b : Store S g) (runs : IsFalse (tables.n
         waits = λ stopped. absurd (true≢false (sym stopped ∙ runs));
         stops = λ runs. inr (fault, stopped);
         version = version ∙ one.version;
+        limit = subst (λ (h : Held S). (sqlite.state g h).step_limit ≡ (tables.store_state g a).step_limit) (sym same) one.limit;
         clean = λ clean. one.clean (then clean);
         same = λ clean. tt;
         kept = λ clean. subst (λ (h : Held S). KeepsTables (tables.store_state g a) (sqlite.state g h)) (sym same)

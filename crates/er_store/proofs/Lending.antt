@@ -80,6 +80,7 @@ module _ {S A : Type 0} (g : Ghosts S) (old begun last end conn : Held S) (P : T
   keeps : (HasCleanDisk (state g end) → OnErr r (KeepsTables (state g old) (state g end))) → Transacts g old r conn
   keeps kept = record {
     mode = mode;
+    limit = subst (λ (h : Held S). (state g h).step_limit ≡ (state g old).step_limit) same (survives.limit ∙ step.survives.limit);
     clean = cleaned;
     kept = λ clean. subst (λ (h : Held S). OnErr r (KeepsTables (state g old) (state g h))) same (kept (late clean));
   }

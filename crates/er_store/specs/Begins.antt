@@ -36,6 +36,7 @@ alone_schema version = tally_schema (players_of version player_tree)
 pub record IsCreated {S : Type 0} (g : Ghosts S) (v : ℕ) (e : EventValue) (old : State) (made : Store S g) : Type 0 where
   pub ready : IsFalse (needs_reopen made)
   pub version : store_version made ≡ v
+  pub limit : (store_state g made).step_limit ≡ old.step_limit
   pub clean : HasCleanDisk (store_state g made) → HasCleanDisk old
   -- nothing called `event` could be read before, and no tables of an event stood there
   pub absent : HasCleanDisk (store_state g made)
@@ -53,6 +54,7 @@ pub record IsCreated {S : Type 0} (g : Ghosts S) (v : ℕ) (e : EventValue) (old
 pub record IsNotCreated {S : Type 0} (g : Ghosts S) (v : ℕ) (e : EventValue) (old : State) (left : Held S × Refusal)
     : Type 0 where
   pub mode : left.0.in_transaction ≡ false
+  pub limit : (held_state g left.0).step_limit ≡ old.step_limit
   pub clean : HasCleanDisk (held_state g left.0) → HasCleanDisk old
   pub why : (left.1 ≡ EventExists) ⊎ IsFault left.1
   -- something called `event` can be read, and nothing is made there
@@ -80,6 +82,7 @@ pub record IsAdopted {S : Type 0} (g : Ghosts S) (old : State) (it : Store S g �
   pub ready : IsFalse (needs_reopen it.0)
   pub low : it.2 ≤ MAX_SERIAL
   pub sound : IsSoundButForSeeds it.1
+  pub limit : (store_state g it.0).step_limit ≡ old.step_limit
   pub clean : HasCleanDisk (store_state g it.0) → HasCleanDisk old
   -- nothing is written, and a crash leaves what it could before
   pub same : HasCleanDisk (store_state g it.0) → IsUnchanged old (store_state g it.0)
@@ -104,6 +107,7 @@ pub record IsAdopted {S : Type 0} (g : Ghosts S) (old : State) (it : Store S g �
 -- It was not, and the connection comes back.
 pub record IsNotAdopted {S : Type 0} (g : Ghosts S) (old : State) (left : Held S × Refusal) : Type 0 where
   pub mode : left.0.in_transaction ≡ false
+  pub limit : (held_state g left.0).step_limit ≡ old.step_limit
   pub clean : HasCleanDisk (held_state g left.0) → HasCleanDisk old
   pub why : (left.1 ≡ NoEvent) ⊎ IsLoadFault left.1
   -- where the event's rows can be read, there is an event

@@ -36,6 +36,8 @@ pub record OnlyReads {S A : Type 0} (g : Ghosts S) (Stops : Refusal → Bool →
   pub stops : IsFalse (needs_reopen old)
       → MatchResult result (λ _. IsFalse (needs_reopen new)) (λ why. Stops why (needs_reopen new))
   pub version : store_version new ≡ store_version old
+  -- the connection's limit on steps stays: a read that it cuts off later was cut off before
+  pub limit : (store_state g new).step_limit ≡ (store_state g old).step_limit
   -- the disk was clean if it is
   pub clean : HasCleanDisk (store_state g new) → HasCleanDisk (store_state g old)
   -- what is answered changes nothing, and a refusal no table
@@ -62,6 +64,7 @@ pub record WritesChange {S : Type 0} (g : Ghosts S) (e next : EventValue) (seria
   pub stops : IsFalse (needs_reopen old)
       → MatchResult result (λ _. IsFalse (needs_reopen new)) (λ why. StopsByFault why (needs_reopen new))
   pub version : store_version new ≡ store_version old
+  pub limit : (store_state g new).step_limit ≡ (store_state g old).step_limit
   pub clean : HasCleanDisk (store_state g new) → HasCleanDisk (store_state g old)
   -- a refusal changes no table, whatever the tables hold
   pub kept : HasCleanDisk (store_state g new) → OnErr result (KeepsTables (store_state g old) (store_state g new))

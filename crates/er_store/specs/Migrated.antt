@@ -56,6 +56,7 @@ pub record MovesTables {S : Type 0} (g : Ghosts S) (e : EventValue) (serial : �
   pub turn : MigratesStore (store_status old) result (store_status new)
   -- a store that has stopped, or whose tables are of version 2, stays as it is
   pub waits : IsTrue (needs_reopen old) ⊎ (store_version old ≡ 2) → new ≡ old
+  pub limit : (store_state g new).step_limit ≡ (store_state g old).step_limit
   pub clean : HasCleanDisk (store_state g new) → HasCleanDisk (store_state g old)
   -- a refusal changes no table, whatever the tables hold
   pub kept : HasCleanDisk (store_state g new) → OnErr result (KeepsTables (store_state g old) (store_state g new))

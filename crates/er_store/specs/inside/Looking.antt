@@ -31,5 +31,6 @@ FailsToRead g old result new =
 -- A transaction was tried: none is begun any more, and where it was refused no table has changed.
 pub record Transacts {S A E : Type 0} (g : Ghosts S) (old : Held S) (result : Result A E) (new : Held S) : Type 0 where
   pub mode : new.in_transaction ≡ false
+  pub limit : (state g new).step_limit ≡ (state g old).step_limit
   pub clean : HasCleanDisk (state g new) → HasCleanDisk (state g old)
   pub kept : HasCleanDisk (state g new) → OnErr result (KeepsTables (state g old) (state g new))

@@ -44,6 +44,7 @@ returns-in-Ok-false g c =
     let look = c.in-Ok-false.ensures in
     record {
       mode = search rules;
+      limit = look.looks.survives.limit;
       clean = λ clean. was_clean look.looks.survives clean;
       why = inl refl;
       no_event = λ is clean reads. true≢false (sym ((look.found clean).1 reads) ∙ c.in-Ok-false.field-0-test);
@@ -61,6 +62,7 @@ returns-in-Err g c =
     let look = c.in-Err.ensures in
     record {
       mode = search rules;
+      limit = look.looks.survives.limit;
       clean = λ clean. was_clean look.looks.survives clean;
       why = inr (inl c.refusal_of.ensures.fault);
       no_event = search rules;
@@ -82,6 +84,7 @@ returns-in-Err-load_tables g c =
     let failed = c.in-Err-load_tables.ensures in
     record {
       mode = search rules;
+      limit = c.load_tables.ensures.looks.survives.limit ∙ c.reads_event.ensures.looks.survives.limit;
       clean = λ clean. was_clean c.reads_event.ensures.looks.survives (c.load_tables.ensures.looks.clean clean);
       why = inr failed.fault;
       no_event = search rules;
@@ -119,6 +122,7 @@ returns-in-Ok g c =
       ready = refl;
       low = loaded.low;
       sound = loaded.sound;
+      limit = c.load_tables.ensures.looks.survives.limit ∙ c.reads_event.ensures.looks.survives.limit;
       clean = λ clean. was_clean c.reads_event.ensures.looks.survives (c.load_tables.ensures.looks.clean clean);
       same = λ clean. unchanged_then _ _ _ (same g c clean) (loaded.looks.same clean);
       crash = λ clean trees may.

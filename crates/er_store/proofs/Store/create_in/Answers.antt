@@ -17,6 +17,7 @@ returns-in-Ok g c =
     record {
       ready = search rules;
       version = search rules;
+      limit = c.in-Ok.ensures.transacts.limit ∙ look.looks.survives.limit;
       clean = λ clean. was_clean look.looks.survives (c.in-Ok.ensures.transacts.clean clean);
       absent = λ clean.
           let none : CanRead (state g.S.Store c.args.conn).now.schema → ⊥ =
@@ -37,6 +38,7 @@ returns-in-Err-create_tables g c =
     λ clean. look.looks.same (failed.transacts.clean clean) in
     record {
       mode = search rules;
+      limit = failed.transacts.limit ∙ look.looks.survives.limit;
       clean = λ clean. was_clean look.looks.survives (failed.transacts.clean clean);
       why = search rules;
       exists = search rules;
@@ -61,6 +63,7 @@ returns-in-Err-create_tables g c =
 pub returns-in-Ok-true : goal.returns-in-Ok-true
 returns-in-Ok-true g c = record {
   mode = search rules;
+  limit = c.in-Ok-true.ensures.looks.survives.limit;
   clean = λ clean. was_clean c.in-Ok-true.ensures.looks.survives clean;
   why = inl refl;
   exists = λ same clean.
@@ -76,6 +79,7 @@ returns-in-Ok-true g c = record {
 pub returns-in-Err : goal.returns-in-Err
 returns-in-Err g c = record {
   mode = search rules;
+  limit = c.in-Err.ensures.looks.survives.limit;
   clean = λ clean. was_clean c.in-Err.ensures.looks.survives clean;
   why = search rules;
   exists = search rules;

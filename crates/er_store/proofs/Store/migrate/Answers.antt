@@ -5,6 +5,7 @@ pub returns-in-Ok : goal.returns-in-Ok
 returns-in-Ok g c = record {
   turn = search rules;
   waits = search rules;
+  limit = c.in-Ok.ensures.transacts.limit;
   clean = c.in-Ok.ensures.transacts.clean;
   kept = λ clean. tt;
   taken = search rules;
