@@ -1,5 +1,5 @@
 -- What is answered to `init`.
-use Rattle.std.proofs.Common.{◌≡◌, ℕ, Bool, true, false, List, Option, Result, Ok, Err, MatchResult}
+use Rattle.std.proofs.Common.{◌≡◌, ℕ, Bool, true, List, Option, Result, Ok, Err, MatchResult}
 use Rattle.std.proofs.Common.{IsFalse, inl, inr, is_ok, refl, sym, ap, subst, ◌∙◌, true≢false}
 use Rattle.sqlite_disk.specs.declared.Disk as disk
 use Rattle.sqlite_store.specs.declared.store.FileStore.{FileStore}

@@ -7,3 +7,4 @@ pub mod Making
 pub mod Complaints
 pub mod Serving
 pub mod Importing
+pub mod Sessions

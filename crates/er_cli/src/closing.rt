@@ -7,9 +7,12 @@ ghost use Rattle.er_desk.specs.Desk.{state};
 ghost use Rattle.er_desk.specs.Opening.{why_of};
 ghost use Rattle.er_cli.specs.Left.{IsClearedOf, ClosesFile};
 ghost use Rattle.er_cli.specs.inside.Closing.{CopiesLog};
+ghost use Rattle.sqlite_store.specs.FileStore.{view, faults, recovers, is_shielded};
+ghost use Rattle.sqlite_trees.specs.View.{IsQuiet, IsClean as IsSure, IsRolledBack as IsUndone};
+ghost use Rattle.sqlite.specs.Held.{AreDatabases};
 
 use crate::left::{Left, NoDesk};
-use er_desk::{Desk, OpenFault};
+use er_desk::{Desk, OpenFault, into_connection};
 use sqlite::{Connection, FileStore, Leftover};
 use sqlite_disk::Disk;
 use sqlite_trees::store::Store;
@@ -29,13 +32,24 @@ pub struct NewLog {
     is_beside_nothing: bool,
 }
 
+/// The store of a connection, with what is not committed rolled back. Others call this one, so that the proof of a generic call at the
+/// store in a file is paid once.
+pub fn into_store<D: Disk + Drop>(conn: Connection<FileStore<D>>) -> FileStore<D>
+    ensures numbered { IsSure (view result) → IsTrue (view result).is_numbered }
+    ensures sound { IsSure (view result) → AreDatabases (recovers result) }
+    ensures undone { IsUndone (view conn.store) (view result) }
+    ensures quiet { IsQuiet view faults recovers is_shielded conn.store result }
+{
+    conn.into_store()
+}
+
 /// Rolls back what is not committed, and copies the log into the database file.
 fn copy_log<D: Disk + Drop>(conn: Connection<FileStore<D>>) -> Result<FileStore<D>, FileStore<D>>
     ensures copied { IfOk result (CopiesLog conn) }
     ensures ready { IfOk result (λ store. IsTrue (store_state store).is_ready) }
     ensures kept { IfErr result (IsClosed conn) }
 {
-    let mut store = conn.into_store();
+    let mut store = into_store(conn);
     // Once more: only the rollback of a store says that its log has nothing uncommitted.
     store.rollback();
     match store.checkpoint() {
@@ -72,14 +86,14 @@ pub fn close<D: Disk + Drop>(conn: Connection<FileStore<D>>) -> Left<D>
 pub fn take<D: Disk + Drop>(conn: Connection<FileStore<D>>) -> Left<D>
     ensures { ClosesFile (file_state conn) result }
 {
-    Left::Unclosed(conn.into_store())
+    Left::Unclosed(into_store(conn))
 }
 
 /// Closes the desk of a file at the end of a run, and gives back what is left of the file.
 pub fn put_away<D: Disk + Drop>(desk: Desk<FileStore<D>>) -> Left<D>
     ensures { ClosesFile (state over_files desk) result }
 {
-    let conn = desk.close();
+    let conn = into_connection(desk);
     close(conn)
 }
 

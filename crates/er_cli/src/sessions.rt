@@ -1,17 +1,18 @@
 ghost use Rattle.std.specs.Prelude.{◌≡◌, List, IsTrue, IfOk, IfErr, MatchResult};
-ghost use Rattle.sqlite.specs.Files.{file_state, image_of, over_files};
-ghost use Rattle.er_desk.specs.Desk.{Point, Placed, state};
+ghost use Rattle.sqlite.specs.Files.{file_state, image_of};
+ghost use Rattle.er_desk.specs.Desk.{Point, Placed};
 ghost use Rattle.er_desk.specs.History.{Ended};
 ghost use Rattle.er_desk.specs.Headline.{RecoversHistory};
 ghost use Rattle.sqlite_wal.specs.Files.{outcomes};
 ghost use Rattle.sqlite_wal.specs.Reads.{AreClean};
 ghost use Rattle.er_cli.specs.Sessions.{AreCut, AsksAll, AsksOver, HoldsAll, HoldsNext, IfCleanFiles, IsClosedOrKept, MayMoveFor};
+ghost use Rattle.er_cli.specs.inside.Sessions.{AsksAndCloses};
 
-use crate::closing::close;
+use crate::closing::{close, into_store};
 use crate::left::Left;
 use er_answers::{Question, Told, ask};
-use er_desk::Desk;
 use er_desk::laws::{next_sessions, sessions_join};
+use er_desk::{Desk, adopt_file};
 use er_event::Refusal;
 use er_store::laws::stored_represents;
 use er_store::refusal_of;
@@ -31,16 +32,17 @@ pub struct Held<D: Disk + Drop> {
 fn cut<D: Disk + Drop>(conn: Connection<FileStore<D>>) -> Files<D>
     ensures { AreClean D.Disk result.log result.db → AreCut D.Disk (file_state conn) result }
 {
-    let store = conn.into_store();
+    let store = into_store(conn);
     store.close()
 }
 
-/// Closes the files of a desk, or cuts it off where a fault of the store is behind.
-fn let_go<D: Disk + Drop>(desk: Desk<FileStore<D>>) -> Result<Files<D>, Left<D>>
-    ensures { IsClosedOrKept (state over_files desk) result }
+/// Closes the files of a connection, or cuts it off where a fault of the store is behind.
+fn let_go<D: Disk + Drop>(
+    conn: Connection<FileStore<D>>,
+    is_over: bool,
+) -> Result<Files<D>, Left<D>>
+    ensures { IsClosedOrKept (file_state conn) result }
 {
-    let is_over = desk.needs_reopen();
-    let conn = desk.close();
     if is_over {
         return Ok(cut(conn));
     }
@@ -70,18 +72,31 @@ fn ask_all<S: Alter>(
     Ok(answers)
 }
 
+/// Asks the desk all of it, and gives back its answers, whether a fault of the store is behind, and its connection.
+fn ask_and_close<S: Alter>(
+    alloc: Global,
+    mut desk: Desk<S>,
+    questions: Vec<Question>,
+) -> (Result<Vec<Told>, AllocError>, bool, Connection<S>)
+    ensures { AsksAndCloses S.Store desk questions.items result }
+{
+    let answers = ask_all(alloc, &mut desk, questions);
+    // To look at a desk asks nothing of its file: this tells the proof.
+    desk.asks_nothing();
+    let is_over = desk.needs_reopen();
+    (answers, is_over, desk.close())
+}
+
 /// Asks the desk all of it, and lets its files go.
 fn hold<D: Disk + Drop>(
     alloc: Global,
-    mut desk: Desk<FileStore<D>>,
+    desk: Desk<FileStore<D>>,
     questions: Vec<Question>,
 ) -> Held<D>
     ensures { AsksOver desk questions.items result.answers result.files }
 {
-    let asked = ask_all(alloc, &mut desk, questions);
-    // To look at a desk asks nothing of its file: this tells the proof.
-    desk.asks_nothing();
-    let files = let_go(desk);
+    let (asked, is_over, conn) = ask_and_close(alloc, desk, questions);
+    let files = let_go(conn, is_over);
     match asked {
         Ok(answers) => Held {
             answers: Ok(answers),
@@ -117,7 +132,7 @@ pub fn next_session<D: Disk + Drop>(
     sessions_join();
     stored_represents();
     match Connection::open_files(alloc, files, options) {
-        Ok(conn) => match Desk::adopt(alloc, conn) {
+        Ok(conn) => match adopt_file(alloc, conn) {
             Ok(desk) => hold(alloc, desk, questions),
             Err((back, why)) => Held {
                 answers: Err(why),

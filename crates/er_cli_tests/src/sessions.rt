@@ -4,7 +4,7 @@ ghost use Rattle.sqlite_disk.specs.Memory.{memory_is_usable};
 ghost use Rattle.sqlite_disk.specs.Fuse.{inner_of, IsFresh};
 
 use er_cli::{Action, Question, Task, Told, file_and_action, hold_sessions};
-use er_desk::Desk;
+use er_desk::{adopt_file, into_connection};
 use er_event::Refusal;
 use er_testing::desks::old_desk;
 use er_words::read_line;
@@ -32,7 +32,9 @@ fn old_files(alloc: Global) -> Option<Disks> {
         db: Fuse::new(Memory::new(alloc), u64::MAX),
     };
     match Connection::open_files(alloc, files, Options::new(7)) {
-        Ok(conn) => old_desk(alloc, conn, 1, 0).ok()?.close().close_files().ok(),
+        Ok(conn) => into_connection(old_desk(alloc, conn, 1, 0).ok()?)
+            .close_files()
+            .ok(),
         Err(_unopened) => None,
     }
 }
@@ -78,7 +80,7 @@ fn held_in(alloc: Global, files: &Disks) -> Option<(u32, u8)> {
     };
     match Connection::open_files(alloc, files, Options::new(7)) {
         Ok(conn) => {
-            let desk = Desk::adopt(alloc, conn).ok()?;
+            let desk = adopt_file(alloc, conn).ok()?;
             Some((desk.serial().ok()?, desk.version().ok()?))
         }
         Err(_unopened) => None,

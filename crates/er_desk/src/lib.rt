@@ -8,6 +8,6 @@ pub mod laws;
 mod opening;
 mod stored;
 
-pub use closing::close_file;
+pub use closing::{close_file, into_connection};
 pub use desk::{Desk, Reply};
-pub use opening::{OpenFault, create_in, open};
+pub use opening::{OpenFault, adopt_file, create_in, open};

@@ -2,7 +2,7 @@ ghost use Rattle.std.specs.Prelude.{◌≡◌, IfOk, IfErr, Some, false};
 ghost use Rattle.sqlite.specs.Files.{over_files, file_state};
 ghost use Rattle.sqlite_wal.specs.Files.{image_at};
 ghost use Rattle.er_event.specs.{Refusal.refusal_text, Sound.AreLimits};
-ghost use Rattle.er_desk.specs.Begins.{HasAdopted, HasNotAdopted, HasCreated, HasNotCreated};
+ghost use Rattle.er_desk.specs.Begins.{AdoptsDesk, HasAdopted, HasNotAdopted, HasCreated, HasNotCreated};
 ghost use Rattle.er_desk.specs.Files.{OpensFile, MakesFile};
 ghost use Rattle.er_desk.specs.Opening.{IsSpared, why_of, OnUnopened};
 ghost use Rattle.er_desk.specs.inside.Opened.{FromOpened};
@@ -64,6 +64,18 @@ impl<D: Disk + Drop> error::Error for OpenFault<D> {}
 /// What the storage crate gives of the files at a path: a connection, or why it did not open them, with what is left.
 type Opened<D> = Result<Connection<FileStore<D>>, (Error, Option<Leftover<D>>)>;
 
+/// Takes over the event of a file, as `Desk::adopt` does. Others call this one, so that the proof of a generic call at the store in a file is
+/// paid once.
+pub fn adopt_file<D: Disk + Drop>(
+    alloc: Global,
+    conn: Connection<FileStore<D>>,
+) -> Result<Desk<FileStore<D>>, (Connection<FileStore<D>>, Refusal)>
+    requires mode { conn.in_transaction ≡ false }
+    ensures { AdoptsDesk over_files conn result }
+{
+    Desk::adopt(alloc, conn)
+}
+
 /// Takes over the event of files that were opened. Just those that were not are called unopened.
 fn adopt_opened<D: Disk + Drop>(
     alloc: Global,
@@ -77,7 +89,7 @@ fn adopt_opened<D: Disk + Drop>(
         Ok(conn) => conn,
         Err((error, left)) => return Err(OpenFault::Unopened { error, left }),
     };
-    match Desk::adopt(alloc, conn) {
+    match adopt_file(alloc, conn) {
         Ok(desk) => Ok(desk),
         Err((conn, refusal)) => Err(OpenFault::Refused { conn, refusal }),
     }

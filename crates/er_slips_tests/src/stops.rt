@@ -5,7 +5,7 @@ ghost use Rattle.sqlite_disk.specs.Memory.{memory_is_usable};
 ghost use Rattle.sqlite_disk.specs.Fuse.{inner_of, IsFresh};
 
 use crate::requests::are_unavailable;
-use er_desk::{Desk, Reply};
+use er_desk::{Desk, Reply, adopt_file, into_connection};
 use er_event::{Cause, Command, Event, Refusal};
 use er_paper::{bracket_text, standings_text};
 use er_testing::desks::{command, new_desk, old_desk};
@@ -734,7 +734,7 @@ fn old_files(alloc: Global) -> Option<Disks> {
         Err(_unopened) => return None,
     };
     let is_cut = send(alloc, &mut desk, CUT, 13) == Some(13) && desk.version() == Ok(1);
-    let files = desk.close().close_files().ok()?;
+    let files = into_connection(desk).close_files().ok()?;
     is_cut.then_some(files)
 }
 
@@ -742,7 +742,7 @@ fn old_files(alloc: Global) -> Option<Disks> {
 fn version_left(alloc: Global, files: &Disks) -> Option<u8> {
     let files = opened_again(alloc, files, NEVER, NEVER)?;
     match Connection::open_files(alloc, files, Options::new(7)) {
-        Ok(conn) => Desk::adopt(alloc, conn).ok()?.version().ok(),
+        Ok(conn) => adopt_file(alloc, conn).ok()?.version().ok(),
         Err(_unopened) => None,
     }
 }

@@ -3,27 +3,27 @@ use Rattle.er_desk.specs.Run.{no_session}
 use Rattle.er_cli.proofs.Holding.{in_either, ran_clean, ran_holds, refused_holds, represents_again, sees_still, still_begins}
 use Rattle.er_cli.proofs.sessions.next_session.Goals as goal
 
-pub returns-in-Ok-adopt-clause-holds : goal.returns-in-Ok-adopt-clause-holds
-returns-in-Ok-adopt-clause-holds g c new first ends was may =
+pub returns-in-Ok-adopt_file-clause-holds : goal.returns-in-Ok-adopt_file-clause-holds
+returns-in-Ok-adopt_file-clause-holds g c new first ends was may =
     let law = c.next_sessions.ensures in
-    let it = c.in-Ok-adopt.ensures in
+    let it = c.in-Ok-adopt_file.ensures in
     let conn = c.in-Ok.conn in
-    ran_holds g.D.Disk law c.args.files new first ends was c.sessions_join.ensures c.in-Ok-adopt.desk it.ready
+    ran_holds g.D.Disk law c.args.files new first ends was c.sessions_join.ensures c.in-Ok-adopt_file.desk it.ready
     (record {
       finds = λ clean. it.found first (represents_again g.D.Disk law c.args.files new first ends was conn c.in-Ok.ensures.opened
           c.in-Ok.ensures.found
           (it.left.clean clean) c.stored_represents.ensures) (law new first.point ends was.begins was.history).sound clean;
-      sees = sees_still g.D.Disk law c.args.files new first ends was conn c.in-Ok-adopt.desk it.left.clean c.in-Ok.ensures.opened
+      sees = sees_still g.D.Disk law c.args.files new first ends was conn c.in-Ok-adopt_file.desk it.left.clean c.in-Ok.ensures.opened
           c.in-Ok.ensures.found it.same;
     })
     c.args.questions.items may c.hold.result.answers c.hold.result.files c.hold.ensures
 
-pub returns-in-Err-adopt-clause-holds : goal.returns-in-Err-adopt-clause-holds
-returns-in-Err-adopt-clause-holds g c new first ends was may =
+pub returns-in-Err-adopt_file-clause-holds : goal.returns-in-Err-adopt_file-clause-holds
+returns-in-Err-adopt_file-clause-holds g c new first ends was may =
     let law = c.next_sessions.ensures in
-    let it = c.in-Err-adopt.ensures in
+    let it = c.in-Err-adopt_file.ensures in
     let conn = c.in-Ok.conn in
-    refused_holds g.D.Disk law c.args.files new first ends was c.args.questions.items c.in-Err-adopt.back c.in-Err-adopt.why
+    refused_holds g.D.Disk law c.args.files new first ends was c.args.questions.items c.in-Err-adopt_file.back c.in-Err-adopt_file.why
     (Ok c.cut.result)
     c.cut.ensures
     (λ clean trees left. still_begins g.D.Disk law c.args.files new first ends was conn c.in-Ok.ensures.opened c.in-Ok.ensures.found
@@ -44,15 +44,15 @@ returns-in-Err-clause-holds g c new first ends was may = record {
   );
 }
 
-pub returns-in-Ok-adopt-clause-clean : goal.returns-in-Ok-adopt-clause-clean
-returns-in-Ok-adopt-clause-clean g c = ran_clean g.D.Disk c.sessions_join.ensures c.in-Ok-adopt.desk c.args.questions.items
+pub returns-in-Ok-adopt_file-clause-clean : goal.returns-in-Ok-adopt_file-clause-clean
+returns-in-Ok-adopt_file-clause-clean g c = ran_clean g.D.Disk c.sessions_join.ensures c.in-Ok-adopt_file.desk c.args.questions.items
     c.hold.result.answers
     c.hold.result.files c.hold.ensures
-    (λ clean. (c.in-Ok.ensures.found (c.in-Ok-adopt.ensures.left.clean clean)).honest)
+    (λ clean. (c.in-Ok.ensures.found (c.in-Ok-adopt_file.ensures.left.clean clean)).honest)
 
-pub returns-in-Err-adopt-clause-clean : goal.returns-in-Err-adopt-clause-clean
-returns-in-Err-adopt-clause-clean g c = λ clean.
-    (c.in-Ok.ensures.found (c.in-Err-adopt.ensures.left.clean (c.cut.ensures clean).was_clean)).honest
+pub returns-in-Err-adopt_file-clause-clean : goal.returns-in-Err-adopt_file-clause-clean
+returns-in-Err-adopt_file-clause-clean g c = λ clean.
+    (c.in-Ok.ensures.found (c.in-Err-adopt_file.ensures.left.clean (c.cut.ensures clean).was_clean)).honest
 
 pub returns-in-Err-clause-clean : goal.returns-in-Err-clause-clean
 returns-in-Err-clause-clean g c clean = absurd clean
