@@ -53,6 +53,24 @@ fn a_text_is_flushed(rt: HostRuntime) -> Result<(), Fail> {
     Ok(())
 }
 
+/// Whether the refusal of an event that isn't there has gone out of a writer that holds it back, and nothing to the other stream.
+fn refusal_flushes(rt: &HostRuntime) -> Option<bool> {
+    let subcommand = String::from_str(rt.alloc(), "players").ok()?;
+    let file = String::from_str(rt.alloc(), "no/such/event").ok()?;
+    let mut out = Vec::new(rt.alloc());
+    let mut err = BufWriter::new(rt.alloc(), Vec::new(rt.alloc())).ok()?;
+    let status = er_cli::run(rt, &[subcommand, file], &mut out, &mut err);
+    let refused = b"refused 27 NoEvent\n".as_slice();
+    Some(status == 1 && err.get_ref().as_slice() == refused && out.is_empty())
+}
+
+/// So has the answer of a command line.
+#[test]
+fn an_answer_is_flushed(rt: HostRuntime) -> Result<(), Fail> {
+    assert_eq!(rt; refusal_flushes(&rt), Some(true));
+    Ok(())
+}
+
 /// Takes so many bytes, and then neither more of them nor a flush.
 fn flushing_in_vain(rt: &HostRuntime, room: usize) -> Sink {
     Sink {

@@ -4,7 +4,7 @@ use er_cli::serve_on;
 use er_slips::Routes;
 use er_testing::desks::{FOUR, desk_after};
 use std::alloc::Global;
-use std::io::{Read, Write};
+use std::io::{BufWriter, Read, Write};
 use std::net::{Ipv4Addr, Shutdown, SocketAddr, TcpListener, TcpStream};
 use std::test::Fail;
 
@@ -51,11 +51,11 @@ fn three_clients(rt: &HostRuntime) -> Option<(TcpListener, TcpStream, TcpStream,
     Some((listener, first, silent, last))
 }
 
-/// The status, and what is printed, where three clients of a listener are served.
-fn serve_three(rt: &HostRuntime, listener: &TcpListener) -> Option<(u8, Vec<u8>)> {
+/// The status, and what is printed to a writer that holds it back, where three clients of a listener are served.
+fn serve_three(rt: &HostRuntime, listener: &TcpListener) -> Option<(u8, BufWriter<Vec<u8>>)> {
     let mut desk = desk_after(rt.alloc(), 3, 0, FOUR)?;
     let routes = Routes::new(rt.alloc()).ok()?;
-    let mut out = Vec::new(rt.alloc());
+    let mut out = BufWriter::new(rt.alloc(), Vec::new(rt.alloc())).ok()?;
     let status = serve_on(rt, &routes, &mut desk, listener, 3, &mut out);
     Some((status, out))
 }
@@ -66,7 +66,8 @@ fn got(alloc: Global, mut client: &TcpStream, answer: &str) -> bool {
     client.read_to_end(&mut bytes).is_ok() && bytes.as_slice() == answer.as_bytes()
 }
 
-/// Whether clients are served in the order in which they came, and one who sends nothing is let go without an answer.
+/// Whether clients are served in the order in which they came, one who sends nothing is let go without an answer, and each line that is
+/// printed has gone out.
 fn are_served(rt: &HostRuntime) -> Option<bool> {
     let alloc = rt.alloc();
     let (listener, first, silent, last) = three_clients(rt)?;
@@ -75,7 +76,7 @@ fn are_served(rt: &HostRuntime) -> Option<bool> {
     let due = format!(in alloc; "listening {port}\nserved 3\n").ok()?;
     Some(
         status == 0
-            && out.as_slice() == due.as_bytes()
+            && out.get_ref().as_slice() == due.as_bytes()
             && got(alloc, &first, TAKEN)
             && got(alloc, &silent, "")
             && got(alloc, &last, SCORED),
