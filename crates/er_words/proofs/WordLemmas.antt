@@ -1,11 +1,13 @@
 -- Lemmas on words, and on the lines that they are.
-use Rattle.std.proofs.{lemmas.Grind.common_steps, Common.{◌≡◌, ℕ, ◌-◌, ◌≤◌, Bool, true, false, ltb, List, [], ◌∷◌, length, map}}
-use Rattle.std.proofs.Common.{take, drop, get_or, codes, Bor, Option, Some, None, Result, refl, ap, arith}
+use Rattle.std.proofs.{lemmas.Grind.common_steps, Common.{◌≡◌, ℕ, suc, ◌-◌, ◌≤◌, Bool, true, false, ltb, List, [], ◌∷◌, length, map}}
+use Rattle.std.proofs.Common.{take, drop, get_or, codes, Bor, Option, Some, None, Result, Ok, Err, refl, ap, subst, arith}
 use Rattle.std.proofs.lemmas.{List.length-map, Bool.false_from_ne_true, Str.{is_utf8-from_IsUtf8, IsUtf8-from_is_utf8}}
-use Rattle.std.specs.{List.{list_any, position, position_or_len}, Str.{IsUtf8, is_utf8}}
+use Rattle.std.specs.{List.{list_any, position, position_or_len}, Str.{IsUtf8, is_utf8}, Result.{IsErrAnd}}
 use Rattle.er_words.specs.{declared.line.Line.Line, declared.line.LineFault.LineFault}
+use Rattle.er_words.specs.declared.line.LineFault.TheVariants.{Usage}
 use Rattle.er_words.specs.Line.{is_option, line_of, split_of}
 use Rattle.er_words.specs.{Usage.{ReadsWords, fault_of, fault_at}, inside.Usage.ReadsNamed}
+use Rattle.er_values.specs.declared.usage.UsageFault.{UsageFault}
 use Rattle.er_values.specs.declared.usage.UsageFault.TheVariants.{LeadingDash, UnknownSubcommand}
 use Rattle.er_words.specs.Fields.{fields_of, with_file, script_words}
 
@@ -63,3 +65,23 @@ Reads-unsplit words plain none = (
 pub Reads-split : (words : List (List ℕ)) (name : List ℕ) (rest : List (List ℕ)) (r : Result Line LineFault)
     → position is_option words ≡ None → split_of words ≡ Some (name, rest) → ReadsNamed name rest r → ReadsWords words r
 Reads-split words name rest r plain split read = rw (none_from_place is_option words plain, plain, split) read
+
+-- the answer to words one of which asks for an option
+pub Reads-refused : (words : List (List ℕ)) (why : UsageFault) (r : Result Line LineFault) → IsErrAnd r (λ fault. fault ≡ Usage why)
+    → ((place : ℕ) × (position is_option words ≡ Some place) × (why ≡ LeadingDash place))
+    → ReadsWords words r
+Reads-refused words why (Ok line) none refused = absurd none
+Reads-refused words why (Err fault) is (place, at, same) = rw (is, same) (Reads-option words place at)
+
+-- the answer to the words of a slice, of which the first names the subcommand
+pub Reads-first : (words : List (Bor (List ℕ))) (d : Bor (List ℕ)) (r : Result Line LineFault) → 1 ≤ length words
+    → position is_option (map (λ (word : Bor (List ℕ)). word.now) words) ≡ None
+    → ReadsNamed (get_or words 0 d).now (map (λ (word : Bor (List ℕ)). word.now) (take (length words - 1) (drop 1 words))) r
+    → ReadsWords (map (λ (word : Bor (List ℕ)). word.now) words) r
+Reads-first [] d r some plain read = absurd (omega (arith, some))
+Reads-first (word ∷ words) d r some plain read =
+    Reads-split (map (λ (w : Bor (List ℕ)). w.now) (word ∷ words)) word.now (map (λ (w : Bor (List ℕ)). w.now) words) r plain refl
+    (subst (λ (ws : List (Bor (List ℕ))). ReadsNamed word.now (map (λ (w : Bor (List ℕ)). w.now) ws) r) (take-all words) read)
+  where
+    take-all : (ws : List (Bor (List ℕ))) → take (suc (length ws) - 1) ws ≡ ws
+    take-all ws = grind (arith, common_steps)

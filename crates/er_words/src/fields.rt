@@ -1,8 +1,8 @@
-ghost use Rattle.std.specs.Prelude.{◌≡◌, ◌∷◌, IfOk, codes, map, string_bytes};
+ghost use Rattle.std.specs.Prelude.{◌≡◌, ◌∷◌, IfOk, codes, map};
 ghost use Rattle.er_words.specs.Fields.{fields_of, script_words};
 ghost use Rattle.er_words.specs.Usage.{ReadsWords};
 
-use crate::line::{Line, LineFault, read_words};
+use crate::line::{Line, LineFault, read_fields};
 use er_values::UsageFault;
 use std::alloc::{AllocError, Global};
 
@@ -15,15 +15,19 @@ fn fields_of(alloc: Global, line: &str) -> Result<Vec<&str>, AllocError>
 }
 
 /// The words of a command line, with `script` put in as FILE.
-fn words_of(alloc: Global, name: &str, values: &[&str]) -> Result<Vec<String>, AllocError>
-    ensures { IfOk result (λ words. map string_bytes words.items
-        ≡ name.now ∷ codes "script" ∷ map (λ value. value.now) values.now) }
+fn words_of<'a>(
+    alloc: Global,
+    name: &'a str,
+    values: &[&'a str],
+) -> Result<Vec<&'a str>, AllocError>
+    ensures { IfOk result (λ words. map (λ word. word.now) words.items
+        ≡ name.entry.now ∷ codes "script" ∷ map (λ value. value.now) values.entry.now) }
 {
     let mut words = Vec::new(alloc);
-    words.push(String::from_str(alloc, name)?)?;
-    words.push(String::from_str(alloc, "script")?)?;
+    words.push(name)?;
+    words.push("script")?;
     for value in values {
-        words.push(String::from_str(alloc, value)?)?;
+        words.push(*value)?;
     }
     Ok(words)
 }
@@ -40,5 +44,5 @@ pub fn read_line(alloc: Global, line: &[u8]) -> Result<Line, LineFault>
         return Err(LineFault::Usage(UsageFault::UnknownSubcommand));
     };
     let words = words_of(alloc, name, values)?;
-    read_words(alloc, &words)
+    read_fields(alloc, &words)
 }

@@ -1,5 +1,7 @@
-ghost use Rattle.std.specs.Prelude.{codes, map, string_bytes};
-ghost use Rattle.er_words.specs.Line.{file_kinds, report_kinds, with_games};
+ghost use Rattle.std.specs.Prelude.{◌≡◌, ℕ, MatchResult, None, Some, codes, map, string_bytes};
+ghost use Rattle.std.specs.List.{position};
+ghost use Rattle.er_values.specs.declared.usage.UsageFault.TheVariants.{LeadingDash};
+ghost use Rattle.er_words.specs.Line.{file_kinds, is_option, report_kinds, with_games};
 ghost use Rattle.er_words.specs.Usage.{ReadsWords};
 ghost use Rattle.er_words.specs.inside.Usage.{ReadsAs, ReadsNamed, report};
 
@@ -10,6 +12,7 @@ use er_values::{
     ExportKind, UsageFault, count, end, list_kind, name_of, number, score, seed, small_number, text,
 };
 use std::alloc::{AllocError, Global};
+use std::convert::AsStr;
 use thiserror::Error;
 
 /// What a command line asks for. Each has the file of its event; a name may be unlawful, and a number one that the event has not.
@@ -315,14 +318,35 @@ fn read_named(alloc: Global, name: &str, words: &[&str]) -> Result<Line, LineFau
     }
 }
 
+/// Refuses words of which one begins with `-`, in any place.
+fn refuse_option<S: AsStr>(words: &[S]) -> Result<(), UsageFault>
+    ensures { MatchResult result (λ _. position is_option (map S.text words.now) ≡ None)
+        (λ why. (place : ℕ) × (position is_option (map S.text words.now) ≡ Some place)
+        × (why ≡ LeadingDash place)) }
+{
+    match option_at(words) {
+        Some(place) => Err(UsageFault::LeadingDash { place }),
+        None => Ok(()),
+    }
+}
+
+/// Reads words that are split already, as those of a script's line, which need no parser.
+pub fn read_fields(alloc: Global, words: &[&str]) -> Result<Line, LineFault>
+    ensures { ReadsWords (map (λ word. word.now) words.now) result }
+{
+    refuse_option(words)?;
+    let [name, values @ ..] = words else {
+        return Err(LineFault::Usage(UsageFault::UnknownSubcommand));
+    };
+    read_named(alloc, name, values)
+}
+
 /// Reads the words of a command line, without the program's name, or says what is wrong with them first: that one begins with `-`, in any
 /// place, and else what is from the first word on.
 pub fn read_words(alloc: Global, words: &[String]) -> Result<Line, LineFault>
     ensures { ReadsWords (map string_bytes words.now) result }
 {
-    if let Some(place) = option_at(words) {
-        return Err(LineFault::Usage(UsageFault::LeadingDash { place }));
-    }
+    refuse_option(words)?;
     let Some((name, values)) = split_words(alloc, words)? else {
         return Err(LineFault::Usage(UsageFault::UnknownSubcommand));
     };

@@ -7,6 +7,7 @@ ghost use Rattle.er_words.specs.inside.Words.{program, words_in};
 use clap::error::ErrorKind;
 use clap::{Arg, ArgMatches, Command, Error};
 use std::alloc::{AllocError, Global};
+use std::convert::AsStr;
 
 /// Whether a word asks for an option. There are none.
 fn is_option(word: &str) -> bool
@@ -16,8 +17,8 @@ fn is_option(word: &str) -> bool
 }
 
 /// The place of the first word that asks for an option.
-pub fn option_at(words: &[String]) -> Option<usize>
-    ensures { result ≡ position is_option (map string_bytes words.now) }
+pub fn option_at<S: AsStr>(words: &[S]) -> Option<usize>
+    ensures { result ≡ position is_option (map S.text words.now) }
 {
     words.iter().position(|word| is_option(word.as_str()))
 }

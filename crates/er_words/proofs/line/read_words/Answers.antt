@@ -1,16 +1,17 @@
 use Rattle.std.proofs.Common.{map, sym, subst}
 use Rattle.std.specs.{String.string_bytes, Global.Global}
 use Rattle.er_words.specs.inside.Usage.{ReadsNamed}
-use Rattle.er_words.proofs.WordLemmas.{Reads-option, Reads-split}
+use Rattle.er_words.proofs.WordLemmas.{Reads-refused, Reads-split}
 use Rattle.er_words.proofs.line.read_words.Goals as goal
 
-pub returns-in-Some : goal.returns-in-Some
-returns-in-Some c = Reads-option (map (string_bytes {Z = Global}) c.args.words.now) c.in-Some.place (sym c.in-Some.ensures)
+pub returns-in_err-refuse_option : goal.returns-in_err-refuse_option
+returns-in_err-refuse_option c =
+    Reads-refused (map (string_bytes {Z = Global}) c.args.words.now) _ c.from_residual.result c.from_residual.ensures.1 c.in_err-refuse_option.ensures
 
 pub returns : goal.returns
 returns c =
-    let split = rw c.in-Some-2.is at c.in_ok-name.ensures in
-    Reads-split (map (string_bytes {Z = Global}) c.args.words.now) c.in-Some-2.name.now _ c.read_named.result (sym c.in_default.ensures)
+    let split = rw c.in-Some.is at c.in_ok-name.ensures in
+    Reads-split (map (string_bytes {Z = Global}) c.args.words.now) c.in-Some.name.now _ c.read_named.result c.in_ok-refuse_option.ensures
     (sym split)
-    (subst (λ values. ReadsNamed c.in-Some-2.name.now (map (λ word. word.now) values) c.read_named.result)
+    (subst (λ values. ReadsNamed c.in-Some.name.now (map (λ word. word.now) values) c.read_named.result)
     c.deref.ensures.value c.read_named.ensures)
