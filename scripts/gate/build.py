@@ -1,12 +1,14 @@
 """Proves the crates that the program stands on and then the program, the lowest first, with all processors, and builds it. It says on
 standard error which crate it is at.
 
-In a fresh checkout all is proved from nothing, as by `rt ci`: each crate over what those below it state, and over none of their proofs. Where
-checks have kept work in a crate's folder, that is used. `rt lib` in one crate's folder would keep the crates below to itself until it ends,
-so that no two got on side by side; here the folders are taken once, for all.
+In a fresh checkout all is proved from nothing, as by `rt ci`: each crate over what those below it state, and over none of their proofs. What a
+crate came to is kept with what it was made from: its sources, the toolchain, and the libraries below as they were written. A later build takes
+it while these are the same. Where checks have kept work in a crate's folder, that is used. `rt lib` in one crate's folder would keep the crates
+below to itself until it ends, so that no two got on side by side; here the folders are taken once, for all.
 """
 import concurrent.futures
 import copy
+import json
 import os
 import shutil
 import subprocess
@@ -30,6 +32,29 @@ class Crate(rt.Crate):
     def compile_by(self, backend, words, to):
         return super().compile_by(backend, words, to) if backend == "llvm" else 0
 
+    def product(self):
+        """The file by which it is seen that its library or the program was made, and is still the one that was."""
+        return f"{self.folder}/out/{self.name}" if self.is_program else f"{self.rlib}/format"
+
+    def made_from(self):
+        """What its library or the program is made from, and what was made."""
+        made = [os.stat(it.product()) for it in [*self.below(), self]]
+        return [self.stamp(), rt.rtlib.text_of(f"{TOP}/HANDLES"), *([it.st_size, it.st_mtime_ns] for it in made)]
+
+    def keep(self, said):
+        """Keeps what the toolchain said of it, for as long as it would say it again."""
+        with open(f"{self.folder}/out/made.json", "w", encoding="utf-8") as it:
+            json.dump({"from": self.made_from(), "said": said}, it)
+
+    def said_before(self):
+        """What the toolchain said when this was made, or None where anything is not as it was then."""
+        try:
+            with open(f"{self.folder}/out/made.json", encoding="utf-8") as it:
+                kept = json.load(it)
+            return kept["said"] if kept["from"] == self.made_from() else None
+        except (OSError, ValueError, KeyError):
+            return None
+
 
 def height(crate, wanted):
     """The text of the crate and of the longest way above it."""
@@ -41,7 +66,8 @@ def prove(crate, jobs, is_anew):
     crate = copy.copy(crate)
     with tempfile.TemporaryFile("a+", errors="replace") as crate.out:
         os.makedirs(f"{crate.folder}/out", exist_ok=True)
-        flags = ["--jobs", str(jobs)]
+        # the program is a few functions over all libraries, and each process reads them all
+        flags = ["--jobs", "1" if crate.is_program else str(jobs)]
         if not is_anew:
             status = crate.build_rlib(flags, anew=False)
         elif crate.is_program:
@@ -49,7 +75,10 @@ def prove(crate, jobs, is_anew):
         else:
             status = crate.prove_library(flags)
         crate.out.seek(0)
-        return crate.name, status == 0, crate.out.read()
+        said = crate.out.read()
+        if is_anew and status == 0:
+            crate.keep(said)
+        return crate.name, status == 0, said
 
 
 def shares(ready, idle):
@@ -60,14 +89,37 @@ def shares(ready, idle):
     return [idle - others] + [1] * others
 
 
+def are_ready(left, proved):
+    """Those of which everything below is proved."""
+    return [it for it in left if proved.issuperset(below.name for below in it.below())]
+
+
+def take_kept(left, proved):
+    """Takes those that are made from what they were made from before. Of what stands above one that is proved anew, nothing is taken."""
+    asked = set()
+    while ready := [it for it in are_ready(left, proved) if it not in asked]:
+        for crate in ready:
+            asked.add(crate)
+            said = crate.said_before()
+            if said is not None:
+                print(f"== {crate.name}\n{said}", end="", flush=True)
+                left.remove(crate)
+                proved.add(crate.name)
+
+
 def prove_all(wanted, is_anew):
     """Proves the crates, first those with the most text above them."""
     heights = {it: height(it, wanted) for it in wanted}
     left = sorted(wanted, key=lambda it: -heights[it])
-    proved, started, running = set(), 0, {}
+    proved, running = set(), {}
+    if is_anew:
+        take_kept(left, proved)
+        if proved:
+            print(f"event_reporter: {len(proved)} of {len(wanted)} are as they were when they were proved", file=sys.stderr, flush=True)
+    started = len(proved)
     with concurrent.futures.ThreadPoolExecutor(rt.processors()) as lanes:
         while len(proved) < len(wanted):
-            ready = [it for it in left if proved.issuperset(below.name for below in it.below())]
+            ready = are_ready(left, proved)
             for crate, jobs in zip(ready, shares(ready, rt.processors() - sum(running.values()))):
                 left.remove(crate)
                 started += 1
