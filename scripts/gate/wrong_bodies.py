@@ -7,20 +7,29 @@ function are put into one copy of the crate, and one check says of each function
 judge, as a function that calls another one that is refused, is tried again without these beside it, and at last alone.
 
 An answer of the function may merely no longer fit the changed body, and no goal of the contract stay open beside it. Such a wrong body is tried once
-more without the function's answers, and that verdict counts. Its invariants stay, since no loop is proved without them.
+more without the function's answers. That verdict counts only if the function as it is in the source is proved without them too. If it isn't, it would be
+refused whatever its body does, so the wrong body is `unclear`. A line `unclear:` in the edit names the goal that stayed open with answers that were
+mended for it by hand, and where it is false; with `--strict` one without such a line fails the run. The invariants stay, since no loop is proved without them.
+
+The edits of crates/NAME/controls change nothing that a function means: a space more, a `match` in place of an `if`, another name for a local. None of
+them may be refused, or what this says of wrong bodies is worth nothing. One of each crate is tried each time, all where no turn is given.
 
 Beside the gate, which leaves processors idle while crates wait for those below them, a crate's wrong bodies are tried as soon as the gate
 has proved it, over copies of the libraries that it made. There those with a line `tried: always` are tried each time, before the others, and one of
 each public function every second time. The rest comes in more turns; so do those of constants, since the facts that refuse them are proved by the
 gate each time. The turns go on every three hours, by the time of the commit, so that the commits of a day do not all try the same ones. With no turn
-given, all are tried. Where time is short, on a machine that others use, what is left of the others is named, and not tried. Of those that are tried
-each time it is kept that they were refused, as `rt ci` keeps it of its own edits, until something changes that their check reads.
+given, all are tried. Where time is short, on a machine that others use, what is left of the others is named, and not tried. What was said of those
+that are tried each time, and of functions without their answers, is kept, as `rt ci` keeps it of its own edits, until something changes that the check
+reads.
 """
 import argparse
+import collections
 import concurrent.futures
 import contextlib
 import dataclasses
 import glob
+import hashlib
+import json
 import os
 import re
 import shutil
@@ -49,8 +58,16 @@ LOST_NAME = re.compile(r"has no field|is not in scope|has no `|was not admitted|
 # What was refused by a proof's own text alone, which no longer fits what it is about, and by no goal.
 BY_TEXT = "refused by a proof's text alone"
 REFUSED = ("refused", BY_TEXT)
-# What says that the text was not read, so that nothing was tried.
-UNREAD = re.compile(r"^(?:\./)?(src|specs)/\S+:\d+:\d+: error", re.M)
+PASSED = "passed"
+# It can't be tried, since its text is not one of the language.
+UNREAD = "unread"
+# What nothing is known of: the answers no longer fit, and without them the function is not proved as it is either.
+UNCLEAR = "unclear"
+BY_HAND = "unclear and judged by hand"
+# What is said of a control: that it was not refused, or that it was.
+HELD, MISJUDGED = "a control that was not refused", "a control that was refused"
+# What a check says of such a text.
+NOT_READ = re.compile(r"^(?:\./)?(src|specs)/\S+:\d+:\d+: error", re.M)
 
 # Where the wrong value of a constant shows.
 EXAMPLES = "Examples"
@@ -63,6 +80,18 @@ class WrongBody:
     pairs: list
     functions: set
     is_always: bool
+    # the goal that stayed open when it was judged by hand
+    by_hand: str = ""
+    # it changes nothing that the functions mean
+    is_control: bool = False
+
+    @property
+    def key(self):
+        return self.name, self.pairs, sorted(self.functions), self.by_hand, self.is_control
+
+    def is_settled(self, said):
+        """Whether what a check beside others said of it counts. That a wrong body passes is said alone."""
+        return said in REFUSED or said == PASSED and self.is_control
 
     def applied(self, texts, crate):
         """The texts of the crate with this edit too, or None where it does not fit beside the others."""
@@ -135,7 +164,7 @@ def proof_of(folder, function, mark=""):
 
 
 def read(path, crate):
-    file, old, pairs, functions, named, is_always = "", None, [], set(), False, False
+    file, old, pairs, functions, named, is_always, by_hand = "", None, [], set(), False, False, ""
     for line in open(path, encoding="utf-8").read().split("\n"):
         if line.startswith("file: "):
             file = line[6:].strip()
@@ -143,6 +172,8 @@ def read(path, crate):
             functions, named = {line[4:].strip()}, True
         elif line == "tried: always":
             is_always = True
+        elif line.startswith("unclear: "):
+            by_hand = line[9:].strip()
         elif line.startswith("old: "):
             old = line[5:]
         elif line.startswith("new:"):
@@ -155,7 +186,17 @@ def read(path, crate):
             old = None
     if not pairs or None in functions:
         sys.exit(f"{path}: no function is around the change: name one by a line `in: MODULE::FUNCTION`")
-    return WrongBody(os.path.splitext(os.path.basename(path))[0], pairs, functions, is_always)
+    return WrongBody(os.path.splitext(os.path.basename(path))[0], pairs, functions, is_always, by_hand)
+
+
+def read_all(folder, crate):
+    """The edits in a folder."""
+    return [read(f"{folder}/{it}", crate) for it in sorted(os.listdir(folder)) if it.endswith(".edit")] if os.path.isdir(folder) else []
+
+
+def controls_of(crate):
+    """The edits of a crate that change nothing."""
+    return [dataclasses.replace(it, is_always=True, is_control=True) for it in read_all(f"{crate.folder}/controls", crate)]
 
 
 def handed_out(root):
@@ -209,22 +250,36 @@ def answers_of(folder, function):
     return [it for it in glob.glob(f"{folder}/proofs/**/Answers.antt", recursive=True) if path.fullmatch(it)]
 
 
-def answered_in(crate, function):
-    """The clauses of a function that its own answers are about."""
-    texts = [open(it, encoding="utf-8").read() for it in answers_of(crate.folder, function)]
-    return {clause_of(it) for text in texts for it in re.findall(r"goal\.(returns[\w-]*)", text)}
+def answered_in(crate, texts, function):
+    """The goals of a function that its own answers are about."""
+    files = [os.path.relpath(it, crate.folder) for it in answers_of(crate.folder, function)]
+    read = [texts.get(it) or open(f"{crate.folder}/{it}", encoding="utf-8").read() for it in files]
+    return {it for text in read for it in re.findall(r"goal\.(returns[^\s()]*)", text)}
+
+
+def pattern_of(function):
+    """A pattern for the folder of a function's proof."""
+    *folders, name = function.split("::")
+    return "/".join(["proofs", *folders, rf"\+?{name}"])
+
+
+def lost_goals(output, function):
+    """Whether the function's answers name a goal that is not there any more, so that another one may stand for it."""
+    return re.search(rf"^(?:\./)?{pattern_of(function)}/Answers\.antt:\d+:\d+: error: .*\.Goals` has no `", output, re.M)
 
 
 def left_open(crate, texts, output, bare):
-    """The functions of which a goal stayed open that no answer of theirs is about. With it a clause is refused, whatever names their answers lost.
-    Those of `bare` have no answers."""
+    """The functions of which a goal stayed open that no answer of theirs is about: none is about its clause, or each goal that they are about is there
+    beside it. With it a clause is refused, whatever other names their answers lost. Those of `bare` have no answers."""
     found = set()
     for file, line, goal in OPEN_GOAL.findall(output):
         text = texts.get(file) or open(f"{crate.folder}/{file}", encoding="utf-8").read()
         function = function_at(crate, text, sum(len(it) for it in text.splitlines(True)[: int(line)]), file)
-        answered = set() if function in bare else answered_in(crate, function or "")
-        if function and goal.startswith("returns") and not answered & {"", clause_of(goal)}:
-            found.add(function)
+        if function and goal.startswith("returns"):
+            answered = set() if function in bare else answered_in(crate, texts, function)
+            is_beside = goal not in answered and not lost_goals(output, function)
+            if is_beside or not {clause_of(it) for it in answered} & {"", clause_of(goal)}:
+                found.add(function)
     return found
 
 
@@ -234,23 +289,21 @@ def said_of(crate, function, output, constants, open_in):
         told = re.findall(r"^(?:\./)?proofs/Examples\.antt:\d+:\d+: error: (.*)$", output, re.M)
         if sum(not LOST_NAME.search(it) for it in told) >= constants:
             return "refused"
-        return "unclear" if told else "proved"
+        return UNCLEAR if told else "proved"
     line = re.search(rf"^fn {crate.name}::{function}: (.*)$", output, re.M)
     if not line:
-        return "unclear"
+        return UNCLEAR
     if line[1].startswith(("proved", "no holes", "depends on a hole")):
         return "proved"
     if "did not prove" in line[1] or function in open_in:
         return "refused"
-    *folders, name = function.split("::")
-    folder = "/".join(["proofs", *folders, rf"\+?{name}"])
-    told = [it for it in re.findall(rf"^(?:\./)?{folder}/\S+?:\d+:\d+: error: (.*)$", output, re.M) if not LOST_NAME.search(it)]
-    return BY_TEXT if told else "unclear"
+    told = [it for it in re.findall(rf"^(?:\./)?{pattern_of(function)}/\S+?:\d+:\d+: error: (.*)$", output, re.M) if not LOST_NAME.search(it)]
+    return BY_TEXT if told else UNCLEAR
 
 
 def verdict(crate, body, output, constants, open_in):
     said = {said_of(crate, it, output, constants, open_in) for it in body.functions}
-    return next((it for it in REFUSED if it in said), "passed" if said == {"proved"} else "unclear")
+    return next((it for it in REFUSED if it in said), PASSED if said == {"proved"} else UNCLEAR)
 
 
 def together(crate, bodies):
@@ -326,10 +379,10 @@ def tried(crate, bodies, kept, has_holes=True, has_answers=True):
     holes = functions_of(crate) - touched if has_holes else set()
     bare = set() if has_answers else touched
     output = checked(crate, texts, holes, bare, only(taken, holes), kept)
-    if re.search(UNREAD, output) or not re.search(r"^(logic|only|holes)=", output, re.M):
-        said = {it.name: "unclear" for it in taken}
+    if re.search(NOT_READ, output) or not re.search(r"^(logic|only|holes)=", output, re.M):
+        said = {it.name: UNCLEAR for it in taken}
         if len(taken) == 1 and not has_holes:
-            said = {taken[0].name: "unread"}
+            said = {taken[0].name: UNREAD}
     else:
         constants = sum(EXAMPLES in it.functions for it in taken)
         open_in = left_open(crate, texts, output, bare)
@@ -354,9 +407,9 @@ def judged(crate, bodies, kept, shows, has_answers=True):
         said, output = tried(crate, left, kept, has_answers=has_answers)
         if shows:
             print(output)
-        refused = {name: what for name, what in said.items() if what in REFUSED}
-        unclear = [it for it in left if it.name in said and it.name not in refused]
-        found.update(refused)
+        refused = any(it in REFUSED for it in said.values())
+        found.update((it.name, said[it.name]) for it in left if it.is_settled(said.get(it.name)))
+        unclear = [it for it in left if it.name in said and it.name not in found]
         left = in_time([it for it in left if it.name not in said])
         # those may have waited for others that were refused
         again += unclear if refused else []
@@ -378,58 +431,115 @@ def is_answered(crate, body):
     return any(answers_of(crate.folder, it) for it in body.functions)
 
 
-class Refused:
-    """The wrong bodies with a line `tried: always` that a run of the gate on this machine saw refused at a goal. They are kept where `rt ci` keeps what its
-    own edits came to, by the sum of all that their check reads, and of this script. An older toolchain keeps nothing."""
+def sum_of(crate, body, *more):
+    """The sum of all that a check of this one reads."""
+    return hashlib.sha256(repr((rt.stamp_of(crate, {}), body.key, *more)).encode()).hexdigest()
+
+
+class Earlier:
+    """What runs of the gate on this machine said of the edits that are tried each time, if it was as it has to be, and of the functions as they are without
+    their answers. It is kept where `rt ci` keeps what its own edits came to, by the sum of all that the check reads, and of this script. An older
+    toolchain keeps nothing."""
 
     def __init__(self, crates):
         self.kept = rt.Kept(crates) if hasattr(rt, "Kept") else None
         with open(__file__, "rb") as it:
             self.judge = it.read()
 
-    def name_of(self, crate, body):
-        return self.kept.of_edit(f"{crate.folder}/wrong-bodies/{body.name}.edit", (rt.stamp_of(crate, {}), self.judge))
+    def said(self, crate, body):
+        """What is kept of this one, or None."""
+        found = self.kept and self.kept.tried(sum_of(crate, body, self.judge))
+        return found[1] if found else None
 
-    def has(self, crate, body):
-        return self.kept is not None and body.is_always and self.kept.tried(self.name_of(crate, body)) is not None
-
-    def add(self, crate, bodies):
-        """Keeps these, unless a file that their check read was touched meanwhile."""
+    def add(self, crate, bodies, said):
+        """Keeps what was said of each of these, unless a file that their check read was touched meanwhile."""
         if self.kept is not None and all(self.kept.is_untouched(it) for it in [*crate.below(), crate]):
             for body in bodies:
-                self.kept.keep_tried(self.name_of(crate, body), rt.REFUSED, "")
+                self.kept.keep_tried(sum_of(crate, body, self.judge), rt.REFUSED, said[body.name])
 
 
-def try_all(crate, bodies, shows, earlier=None):
-    """What was found of each of these wrong bodies of a crate, by name. Those that were refused earlier are not tried."""
-    found = {it.name: "refused" for it in bodies if earlier and earlier.has(crate, it)}
+class Verdicts:
+    """A file with a line of JSON for each edit that was tried, so that a run which takes long may go on where an earlier one was stopped."""
+
+    def __init__(self, path):
+        self.path, self.rows = path, {}
+        if os.path.exists(path):
+            with open(path, encoding="utf-8") as it:
+                self.rows = {row["sum"]: row for row in map(json.loads, it)}
+
+    def said(self, crate, body):
+        """The verdict that is there, or None."""
+        return self.rows.get(sum_of(crate, body), {}).get("verdict")
+
+    def add(self, crate, body, **said):
+        row = {"crate": crate.name, "edit": body.name, "functions": sorted(body.functions), **said, "sum": sum_of(crate, body)}
+        with printing, open(self.path, "a", encoding="utf-8") as it:
+            it.write(json.dumps(row) + "\n")
+
+
+def said_without_answers(crate, bodies, kept, shows, earlier):
+    """What is said of each function that these change, as it is and without its answers, by its path."""
+    always = {it: any(it in body.functions and body.is_always for body in bodies) for body in bodies for it in body.functions}
+    as_they_are = [WrongBody(function, [], {function}, is_always, is_control=True) for function, is_always in sorted(always.items())]
+    found = {it.name: earlier.said(crate, it) for it in as_they_are} if earlier else {}
+    new = [it for it in as_they_are if not found.get(it.name)]
+    said = judged(crate, new, kept, shows, has_answers=False)
+    if earlier:
+        earlier.add(crate, [it for it in new if it.name in said], said)
+    return {**found, **said}
+
+
+def try_all(crate, bodies, shows, earlier=None, verdicts=None):
+    """What was found of each of these wrong bodies and controls of a crate, by name. Those of which an earlier run said it are not tried."""
+    found = {it.name: earlier.said(crate, it) for it in bodies if earlier and it.is_always}
+    found.update({it.name: verdicts.said(crate, it) for it in bodies if verdicts and not found.get(it.name)})
+    found = {name: what for name, what in found.items() if what}
     known, new = len(found), [it for it in bodies if it.name not in found]
     with tempfile.TemporaryDirectory(prefix="wrong-bodies-") as kept:
-        found.update(judged(crate, new, kept, shows))
-        by_text = [it for it in new if found.get(it.name) == BY_TEXT and is_answered(crate, it)]
-        without = judged(crate, by_text, kept, shows, has_answers=False)
-        found.update({name: what for name, what in without.items() if what != "unclear"})
+        first = judged(crate, new, kept, shows)
+        lost = [it for it in new if first.get(it.name) in (BY_TEXT, UNCLEAR) and is_answered(crate, it)]
+        without = said_without_answers(crate, lost, kept, shows, earlier)
+        are_proved = [it for it in lost if all(without.get(function) == PASSED for function in it.functions)]
+        second = judged(crate, are_proved, kept, shows, has_answers=False)
+    for it in (it for it in new if it.name in first):
+        if it in are_proved:
+            what = second.get(it.name)
+        elif it in lost:
+            what = UNCLEAR if all(without.get(function) for function in it.functions) else None
+        else:
+            what = first[it.name]
+        if what:
+            found[it.name] = counted(it, what)
+            if verdicts:
+                as_it_is = sorted(without[function] for function in it.functions) if it in lost else []
+                verdicts.add(crate, it, first=first[it.name], unchanged=as_it_is, second=second.get(it.name), verdict=found[it.name])
     if earlier:
-        earlier.add(crate, [it for it in new if it.is_always and found.get(it.name) == "refused"])
+        earlier.add(crate, [it for it in new if it.is_always and found.get(it.name) in ("refused", BY_HAND, HELD)], found)
     found.update({it.name: NOT_TRIED for it in bodies if it.name not in found})
     with printing:
         for name, what in sorted(found.items()):
-            if what != "refused":
+            if what not in ("refused", HELD):
                 print(f"{crate.name}/{name}: {what.upper()}", flush=True)
         if known:
-            print(f"{crate.name}: {known} were refused in an earlier run on this machine, and nothing that they stand on has changed")
+            print(f"{crate.name}: {known} were tried in an earlier run on this machine, and nothing that they stand on has changed")
         print(f"{crate.name}: {told([found])}", flush=True)
     return found
 
 
+def counted(body, what):
+    """What counts of a body of which this was said."""
+    if body.is_control and what != UNREAD:
+        return HELD if what in (PASSED, UNCLEAR) else MISJUDGED
+    return BY_HAND if what == UNCLEAR and body.by_hand else what
+
+
 def told(found):
     """How many were refused, passed, and were not tried."""
-    all_said = [it for said in found for it in said.values()]
-    at_a_goal, by_text, left = all_said.count("refused"), all_said.count(BY_TEXT), all_said.count(NOT_TRIED)
-    passed = len(all_said) - at_a_goal - by_text - left
-    parts = [f"{at_a_goal} refused at a goal", f"{passed} passed"]
-    parts += [f"{by_text} {BY_TEXT}"] * (by_text > 0) + [f"{left} not tried for want of time"] * (left > 0)
-    return ", ".join(parts)
+    counts = collections.Counter(it for said in found for it in said.values())
+    parts = [f"{counts['refused']} refused at a goal", f"{counts[PASSED]} passed", f"{counts[UNCLEAR]} unclear"]
+    parts += [f"{counts[it]} {it}" for it in (BY_HAND, BY_TEXT, UNREAD) if counts[it]]
+    parts += [f"{counts[HELD]} of {counts[HELD] + counts[MISJUDGED]} controls not refused"] * (counts[HELD] + counts[MISJUDGED] > 0)
+    return ", ".join(parts + [f"{counts[NOT_TRIED]} not tried for want of time"] * (counts[NOT_TRIED] > 0))
 
 
 # What the gate says of a crate that it has proved, and what its log ends with.
@@ -504,12 +614,12 @@ def try_beside(gate, work, shows, earlier):
     return found
 
 
-def try_now(work, shows):
-    """Tries all with all processors, over the libraries below as the session builds them."""
+def try_now(work, shows, jobs, verdicts):
+    """Tries all, so many crates at once, over the libraries below as the session builds them."""
     if any(it.build_rlib(["--jobs", "1"], anew=False) for crate, bodies in work if bodies for it in crate.below()):
         sys.exit("a library below could not be built")
-    with concurrent.futures.ThreadPoolExecutor(rt.processors()) as pool:
-        return list(pool.map(lambda it: try_all(*it, shows), work))
+    with concurrent.futures.ThreadPoolExecutor(jobs) as pool:
+        return list(pool.map(lambda it: try_all(*it, shows, verdicts=verdicts), work))
 
 
 def main():
@@ -520,6 +630,9 @@ def main():
     words.add_argument("--minutes", metavar="NUMBER", type=int, help="begin no check after so many but of those tried each time; what is left is named, and is no fault")
     words.add_argument("--only", metavar="EDIT", action="append", help="try this one, and no other that is not named so too")
     words.add_argument("--show", action="store_true", help="print what each check said")
+    words.add_argument("--strict", action="store_true", help="fail if one is unclear and was not judged by hand")
+    words.add_argument("--jobs", metavar="NUMBER", type=int, default=rt.processors(), help="try those of so many crates at once; without it, as many as there are processors")
+    words.add_argument("--verdicts", metavar="FILE", help="add a line of JSON for each that was tried to FILE, and leave out those of which it has one")
     given = words.parse_args()
     if given.minutes:
         global deadline
@@ -528,20 +641,20 @@ def main():
     rt.rtlib.guarded()
     work, crates = [], rt.rtlib.crates_below(os.getcwd())
     for crate in crates:
-        folder = f"{crate.folder}/wrong-bodies"
-        if os.path.isdir(folder) and (not given.names or crate.name in given.names):
-            bodies = [read(f"{folder}/{it}", crate) for it in sorted(os.listdir(folder)) if it.endswith(".edit")]
-            bodies = [it for it in bodies if not given.only or it.name in given.only]
-            work.append((crate, bodies if given.turn is None else of_turn(crate, bodies, given.turn)))
+        if os.path.isdir(f"{crate.folder}/wrong-bodies") and (not given.names or crate.name in given.names):
+            bodies, controls = read_all(f"{crate.folder}/wrong-bodies", crate), controls_of(crate)
+            if given.turn is not None:
+                bodies, controls = of_turn(crate, bodies, given.turn), controls[given.turn % max(len(controls), 1) :][:1]
+            work.append((crate, [it for it in bodies + controls if not given.only or it.name in given.only]))
     work.sort(key=lambda it: -it[0].count(rb"\n"))
     if given.beside_gate:
         with tempfile.TemporaryDirectory(prefix="gate-libraries-") as room:
-            found = try_beside(Gate(given.beside_gate, room), work, given.show, Refused(crates))
+            found = try_beside(Gate(given.beside_gate, room), work, given.show, Earlier(crates))
     else:
-        found = try_now(work, given.show)
+        found = try_now(work, given.show, given.jobs, Verdicts(given.verdicts) if given.verdicts else None)
     print(f"wrong bodies: {told(found)}")
     all_said = {it for said in found for it in said.values()}
-    return 1 if all_said - {*REFUSED, NOT_TRIED} or "refused" not in all_said else 0
+    return 1 if all_said & {PASSED, UNREAD, MISJUDGED, *[UNCLEAR] * given.strict} or not all_said & {"refused", BY_HAND, HELD} else 0
 
 
 if __name__ == "__main__":
