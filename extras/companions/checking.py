@@ -68,6 +68,21 @@ def copies_before(copies: Copies, number: int) -> list[Copy]:
     return [copy for copy in copies.all() if copy.what == f"before-pair-{number}"]
 
 
+def fault_of(source: Source, copies: Copies, keys: Keys, number: int) -> str:
+    """Why a round could not be played again, as far as that is seen without playing it; or nothing."""
+    made = copies_before(copies, number)
+    if not made:
+        return "no copy from before it is there"
+    if not keys_of(keys, number):
+        return "its key is not in the list of keys"
+    try:
+        with opened(source, made[-1]) as program:
+            program.players()
+    except FAULTS:
+        return f"copy {made[-1].number}, from before it, can't be opened"
+    return ""
+
+
 def keys_of(keys: Keys, number: int) -> list[str]:
     return [key for of, key in keys.all() if of == number]
 

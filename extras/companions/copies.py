@@ -5,6 +5,7 @@ import filecmp
 import glob
 import os
 import re
+import shutil
 import time
 from dataclasses import dataclass
 from typing import Optional
@@ -89,6 +90,11 @@ class Copies:
         found = re.fullmatch(r".*\.away-(\d{4,})-(\d{8}-\d{6})", path, re.S)
         return Copy(int(found[1]), found[2], "away", path) if found else None
 
+    def size(self) -> int:
+        """All bytes of the copies, and of what was put away."""
+        paths = [copy.path + log for copy in self.all() for log in ("", "-wal")]
+        return sum(os.path.getsize(path) for path in paths if os.path.exists(path))
+
     def next_name(self) -> str:
         return f"{max((copy.number for copy in self.all()), default=0) + 1:04}-{time_stamp()}"
 
@@ -128,8 +134,8 @@ class Copies:
         program has the file.
 
         If both have closed their logs, and the system can exchange two names in one step, FILE is the old
-        event or the new one at each moment. Else the file goes before its log, so that it never lies there without,
-        and the copy's log comes before the copy.
+        event or the new one at each moment. Else the file goes before its log, so that it never lies there
+        without, and the copy's log comes before the copy.
         """
         beside = f"{self.file}.back"
         with self.turn.taken(), held_by_nobody(self.file):
@@ -139,12 +145,15 @@ class Copies:
             if is_there and not has_log(self.file) and not has_log(copy.path):
                 # the new event has the old one's last name until they are exchanged
                 copy_synced(copy.path, away.path)
+                shutil.copymode(self.file, away.path)
                 if exchange(away.path, self.file):
                     return away
                 os.unlink(away.path)
             if has_log(copy.path):
                 copy_synced(f"{copy.path}-wal", f"{beside}-wal")
             copy_synced(copy.path, beside)
+            if is_there:
+                shutil.copymode(self.file, beside)
             for log in ("", "-wal", "-shm"):
                 if os.path.lexists(self.file + log):
                     move(self.file + log, away.path + log)

@@ -1,6 +1,6 @@
 """What came since a copy. An event is read from the texts of the plain reading."""
 from companions.event import Event
-from companions.prompt.evening import came_since
+from companions.prompt.since import Missing, came_since, left_in, missing_since
 from from_model import FromModel
 from scripts.models.plain_event import Event as PlainEvent
 
@@ -68,3 +68,23 @@ def test_the_cut_and_scores_of_the_playoff_come_as_lines_to_type():
     ]
     lines = came_since(cut_of_four([(1, 1, (2, 1, 0))]), cut_of_four([]), OfRounds({}))
     assert [line for line in lines if line.startswith("  ")] == ["  play final 2 1"]
+
+
+def test_what_can_be_typed_again_is_sent_so():
+    before = played(results=((1, (2, 1, 0)), (2, (0, 2, 0))), dropped=(3,), late=("-x, Lou",))
+    assert missing_since(before, played(results=((1, (2, 0, 0)),))) == [
+        Missing("fix 1 1 2 1 0", ("correct", "1", "1", "2", "1", "0")),
+        Missing("2 0 2 0", ("result", "1", "2", "0", "2", "0")),
+        Missing("drop 3", ("drop", "3")),
+        Missing("enrol -x, Lou", ("enrol", "-x, Lou")),
+    ]
+
+
+def test_what_is_left_out():
+    one, two, three = (Missing(str(number), ()) for number in (1, 2, 3))
+    missing = [one, two, three]
+    assert left_in("y", missing) == left_in("YES", missing) == missing
+    assert left_in("n", missing) == []
+    assert left_in("but 1 3", missing) == left_in("But 3,1", missing) == [two]
+    for answer in ("", "but", "but 4", "but 0", "but x", "1 3", "1 2 0", "maybe"):
+        assert left_in(answer, missing) is None

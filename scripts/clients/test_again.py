@@ -108,6 +108,59 @@ def test_start_says_what_is_usual(prompt, room):
     assert read(file).phase == 1
 
 
+def test_what_can_not_be_played_again_is_told(prompt, program, played):
+    """When the prompt starts at a terminal, and by `copies`."""
+    program.did("pair", played, "3", "0" * 64)
+    text = prompt.said(played, "copies")
+    check_said("copies", text, " copies, 0.", "Round 3: no copy from before it is there. It can't be played again")
+    terminal = prompt.terminal(played)
+    assert "Round 3: no copy from before it is there." in terminal.began
+    assert terminal.end()[0] == 0
+    (copy,) = [name for name in os.listdir(f"{played}.copies") if "before-pair-2" in name]
+    with open(f"{played}.copies/{copy}", "r+b") as it:
+        it.truncate(4096)
+    check_said("a damaged one", prompt.said(played, "copies"), "Round 2: copy ", "from before it, can't be opened")
+    os.unlink(f"{played}.keys")
+    check_said("without keys", prompt.said(played, "copies"), "Round 1: its key is not in the list of keys")
+
+
+# ---- what came since a copy
+
+
+def test_back_offers_to_type_again(prompt, program, played):
+    """All but what is left out; what is refused is said, and the others go on."""
+    prompt.said(played, "pair", "1 2 0", "fix 1 2 0 2 0", "y", "enrol -x", "drop 4", "y")
+    before = read(played)
+    prompt.said(played, "take back drop 4", "drop 4", "y")
+    terminal = prompt.terminal(played)
+    copies = terminal.send("back")
+    number = next(line.split()[0] for line in copies.split("\n") if "before the drop of P4 (4)" in line)
+    terminal.send(f"back {number}")
+    text = terminal.send("y")
+    check_said("it offers", unfilled(text), "What came since:", "1 drop 4", "Type it again? (y, n, or what to leave out: but 1 3)")
+    terminal.keys("but 2\r")
+    assert "Type it again?" in terminal.read_for(b"but 1 3) "), "there is no second line"
+    check_said("yes", terminal.send("y"), "round 3, ", "r3> ")
+    assert terminal.end()[0] == 0
+    after = read(played)
+    assert (after.stored, after.names, after.dropped) == (before.stored, before.names, before.dropped)
+
+
+def test_back_leaves_out_what_is_named(prompt, played):
+    prompt.said(played, "pair", "1 2 0", "2 2 1", "enrol Ed")
+    text = prompt.said(played, "back")
+    number = next(line.split()[0] for line in text.split("\n") if "before the pairing of round 2" in line)
+    # a correction came since, in round 1
+    terminal = prompt.terminal(played)
+    terminal.send(f"back {number}")
+    check_said("it offers", unfilled(terminal.send("y")), "1 fix 1 2 1 0 2", "2 enrol Ed", "but 1 3)")
+    text = terminal.send("but 1")
+    check_said("the rounds are said", text, "Round 2 was paired since. Its key, for: pair again", "Round 3 was paired since.")
+    assert terminal.end()[0] == 0
+    event = read(played)
+    assert (event.names[-1], event.stored[0][1][2], len(event.stored)) == ("Ed", (2, 1, 0), 1)
+
+
 # ---- what is taken back
 
 

@@ -79,6 +79,7 @@ help all
 foo
 init Another One 3 0
 plan
+copies
 take back 999
 take back drop 999
 remove 999

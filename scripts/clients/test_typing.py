@@ -203,7 +203,7 @@ def test_a_pairing_that_is_refused_leaves_the_clock(prompt, begun):
 
 
 def test_words_that_take_nothing(prompt, begun):
-    words = "players", "bracket", "cut", "start", "where", "migrate", "undo", "keys", "open", "phones", "quit"
+    words = "players", "bracket", "cut", "start", "where", "migrate", "undo", "copies", "keys", "open", "phones", "quit"
     text = prompt.said(begun, *(f"{word} 4" for word in words))
     check_said("they say so", text, *(f"{word} takes nothing after it. To do it, type: {word}\n" for word in words))
     assert read(begun).serial == 6

@@ -203,6 +203,10 @@ class Desk(cmd.Cmd):
     def do_copy(self, rest: str) -> None:
         self.evening.copy(rest)
 
+    def do_copies(self, rest: str) -> None:
+        only("copies", rest)
+        self.evening.copies()
+
     def do_back(self, rest: str) -> None:
         self.evening.back(rest)
 
@@ -308,6 +312,8 @@ class Desk(cmd.Cmd):
             else:
                 session.say_where()
                 self.say_unused_key()
+                if self.lines.is_terminal:
+                    self.evening.say_what_is_missing()
         except Refused as refused:
             session.explain(refused)
             # a pipe may begin by making the event

@@ -1,28 +1,28 @@
 """The event as a whole: its beginning, its copies, and the way back to one."""
 from __future__ import annotations
 
+import contextlib
 import os
 import re
 import time
-from typing import Iterator, Optional
+from typing import Optional
 
-from companions.checking import opened
+from companions.checking import fault_of, opened
 from companions.clock import Clock, keep_clock, kept_clock, start_clock, stop_clock
 from companions.copies import Copy
 from companions.event import Event, Phase, read_or_none
 from companions.files import move, time_stamp
 from companions.holding import held_by_nobody
-from companions.keys import Keys
 from companions.lists import Bracket, Players, Rounds
 from companions.names import visible
 from companions.phones.codes import path_of as path_of_secret
 from companions.plan import plan_of, usual_rounds
-from companions.program import FAULTS, Declined
+from companions.program import FAULTS, Declined, Refused
 from companions.prompt.lines import minutes_of, numbers_in, unbroken
 from companions.prompt.session import Command, Session
+from companions.prompt.since import Missing, came_since, left_in, missing_since, rounds_since
 from companions.prompt.texts import UNDO
-from companions.reports import shown_score
-from companions.stages import slot_typed
+from companions.rosters import written_list
 from companions.title import keep_title
 
 
@@ -197,6 +197,26 @@ class Evening:
             raise Declined("There is no copy of this number. See: back")
         self.go_back(chosen)
 
+    def copies(self) -> None:
+        """How many copies there are, how large they are, and which rounds have none."""
+        session = self.session
+        number, size = len(session.copies.all()), session.copies.size()
+        session.say(f"{number} cop{'y' if number == 1 else 'ies'}, {size / 1_000_000:.1f} MB. See: back")
+        folder = session.second.folder()
+        if folder:
+            session.say(f"Each goes to {visible(folder)} too. To end that: copy off")
+        self.say_what_is_missing()
+
+    def say_what_is_missing(self) -> None:
+        """Rounds that can't be played again, as one that a command line paired."""
+        session = self.session
+        if session.source.is_served:
+            return
+        for number in range(1, len(session.event.rounds) + 1):
+            fault = fault_of(session.source, session.copies, session.keys, number)
+            if fault:
+                session.say(f"Round {number}: {fault}. It can't be played again, as by take back or plan.")
+
     def players_or_none(self) -> Players:
         try:
             return self.session.event.players
@@ -221,54 +241,38 @@ class Evening:
             session.say(f"The event that was in use is {visible(away.path)} now.")
         session.say_where()
         if before:
+            self.type_again(before)
+
+    def type_again(self, before: Event) -> None:
+        """Says what came since the copy, and at a terminal offers to type again what can be."""
+        session = self.session
+        missing = missing_since(before, session.event)
+        if not missing or not session.lines.is_terminal:
             session.say(*came_since(before, session.event, session.keys))
+            return
+        session.say("What came since:", *(f"{at:4}  {it.line}" for at, it in enumerate(missing, 1)))
+        question = "Type it again? (y, n, or what to leave out: but 1 3)"
+        answer = session.lines.reply(question, lambda text: left_in(text, missing) is not None)
+        with unbroken(), session.source.turn.taken():
+            for it in left_in(answer, missing) or []:
+                self.send_again(it)
+        session.look_again()
+        session.say_where()
+        session.say(*rounds_since(before, session.event, session.keys))
+
+    def send_again(self, missing: Missing) -> None:
+        """What is refused is said, and the others go on."""
+        session = self.session
+        words = missing.words
+        try:
+            with contextlib.ExitStack() as stack:
+                if words[0] == "enrol":
+                    # a name may begin with a hyphen
+                    words = ("import", stack.enter_context(written_list([words[1]])))
+                session.source.send(*words)
+        except Refused as refused:
+            session.say_failed(f"Not taken: {missing.line} ({refused})")
 
     def read_copy(self, copy: Copy) -> Optional[Event]:
         with opened(self.session.source, copy) as program:
             return read_or_none(program)
-
-
-def came_since(before: Event, now: Event, keys: Keys) -> list[str]:
-    """What the event that was put away has and this one hasn't, as lines to type."""
-    lines = [f"  {line}" for line in [*results_since(before, now), *players_since(before, now)]]
-    found = ["What came since, to type again where it still holds:", *lines] if lines else []
-    for number in range(len(now.rounds) + 1, len(before.rounds) + 1):
-        key = keys.last(number) or "not in the list of keys"
-        found.append(f"Round {number} was paired since. Its key, for: pair again\n  {key}")
-        matches = [match for match in before.rounds[number - 1] if match.score and not match.is_bye]
-        found += [f"  {match.place} {' '.join(match.score.split('-'))}" for match in matches]
-    return found + playoff_since(before, now)
-
-
-def playoff_since(before: Event, now: Event) -> list[str]:
-    """The cut, and the scores of the playoff."""
-    found = []
-    if before.stages and not now.stages:
-        found.append("The playoff was begun since. To begin it again: cut")
-    scores = []
-    for stage, matches in enumerate(before.stages, 1):
-        for match in matches:
-            if match.score and now.score_in(stage, str(match.place)) != match.score:
-                slot = slot_typed(stage, match.place, before.first_stage)
-                scores.append(f"  play {slot} {' '.join(shown_score(match.score).split('-'))}")
-    if scores:
-        found += ["Scores of the playoff that came since, where the same players meet:", *scores]
-    return found
-
-
-def results_since(before: Event, now: Event) -> Iterator[str]:
-    for number, matches in enumerate(now.rounds, 1):
-        for match in matches:
-            old = before.match(number, str(match.place))
-            is_same_pair = old and (old.first, old.second) == (match.first, match.second)
-            if old and is_same_pair and old.score and old.score != match.score:
-                games = " ".join(old.score.split("-"))
-                yield f"fix {number} {match.place} {games}" if match.score else f"{match.place} {games}"
-
-
-def players_since(before: Event, now: Event) -> Iterator[str]:
-    for number, player in before.players.items():
-        if number not in now.players:
-            yield f"enrol {visible(player.name)}"
-        if player.has_dropped and not (number in now.players and now.players[number].has_dropped):
-            yield f"drop {number}"

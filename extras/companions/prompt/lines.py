@@ -188,6 +188,24 @@ class Input:
                 return False
 
 
+    def reply(self, question: str, is_answer: Callable[[str], bool]) -> str:
+        """What is answered at a terminal. The end of the input, Ctrl-C, and a command in place of an answer are
+        a no.
+        """
+        assert self.typing
+        while True:
+            try:
+                line = self.first_of(self.typing.answer, f"{question} ").strip()
+            except (EOFError, KeyboardInterrupt):
+                print()
+                return "n"
+            if is_answer(line):
+                return line
+            if self.is_command(line):
+                self.ahead.insert(0, line)
+                return "n"
+
+
 def spread(text: str) -> str:
     """The same with spaces between numbers, however they were parted: 7 2-1, 7 2:1, 7,2,1, or TABs of a
     spreadsheet.

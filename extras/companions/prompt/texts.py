@@ -75,7 +75,9 @@ MORE_COMMANDS = """\
   copy                 copies the event now, and checks the copy
   copy /media/stick    the same to that folder too, and from now on each copy;
                        copy off ends it
-  back 3               goes on from copy 3; it asks back
+  copies               how many copies there are, and which rounds have none
+  back 3               goes on from copy 3; it asks back, and offers to type
+                       again what came since
   play qf2 2 1         the score of quarterfinal 2; sf1 is a semifinal, and the
                        final is: play final 2 0
   keys, check 3        the keys; whether round 3 is the one that its key gives

@@ -1,0 +1,95 @@
+"""What came since a copy: what the event that was put away has, and the one of the copy hasn't."""
+from __future__ import annotations
+
+from dataclasses import dataclass
+from typing import Iterator, List, Optional, Tuple
+
+from companions.event import Event
+from companions.keys import Keys
+from companions.names import visible
+from companions.reports import shown_score
+from companions.stages import slot_typed
+
+
+@dataclass(frozen=True)
+class Missing:
+    """A command that has to be given again: as it is typed, and as it is sent."""
+
+    line: str
+    words: Tuple[str, ...]
+
+
+def missing_since(before: Event, now: Event) -> List[Missing]:
+    """What can be typed again as it is, in an order in which it can: results and corrections of the rounds
+    that are there, latecomers, and drops.
+    """
+    return [*results_since(before, now), *players_since(before, now)]
+
+
+def results_since(before: Event, now: Event) -> Iterator[Missing]:
+    for number, matches in enumerate(now.rounds, 1):
+        for match in matches:
+            old = before.match(number, str(match.place))
+            is_same_pair = old and (old.first, old.second) == (match.first, match.second)
+            if old and is_same_pair and old.score and old.score != match.score:
+                score = old.score.split("-")
+                games = " ".join(score)
+                line = f"fix {number} {match.place} {games}" if match.score else f"{match.place} {games}"
+                word = "correct" if match.score else "result"
+                yield Missing(line, (word, str(number), str(match.place), *score))
+
+
+def players_since(before: Event, now: Event) -> Iterator[Missing]:
+    for number, player in before.enrolled.items():
+        if number not in now.enrolled:
+            yield Missing(f"enrol {visible(player.name)}", ("enrol", player.name))
+        if player.has_dropped and not (number in now.enrolled and now.enrolled[number].has_dropped):
+            yield Missing(f"drop {number}", ("drop", str(number)))
+
+
+def came_since(before: Event, now: Event, keys: Keys) -> List[str]:
+    """All of it, as lines to type."""
+    lines = [f"  {missing.line}" for missing in missing_since(before, now)]
+    found = ["What came since, to type again where it still holds:", *lines] if lines else []
+    return found + rounds_since(before, now, keys)
+
+
+def rounds_since(before: Event, now: Event, keys: Keys) -> List[str]:
+    """The rounds and the playoff, which depend on all that comes before them."""
+    found = []
+    for number in range(len(now.rounds) + 1, len(before.rounds) + 1):
+        key = keys.last(number) or "not in the list of keys"
+        found.append(f"Round {number} was paired since. Its key, for: pair again\n  {key}")
+        matches = [match for match in before.rounds[number - 1] if match.score and not match.is_bye]
+        found += [f"  {match.place} {' '.join(match.score.split('-'))}" for match in matches]
+    return found + playoff_since(before, now)
+
+
+def playoff_since(before: Event, now: Event) -> List[str]:
+    """The cut, and the scores of the playoff."""
+    found = []
+    if before.stages and not now.stages:
+        found.append("The playoff was begun since. To begin it again: cut")
+    scores = []
+    for stage, matches in enumerate(before.stages, 1):
+        for match in matches:
+            if match.score and now.score_in(stage, str(match.place)) != match.score:
+                slot = slot_typed(stage, match.place, before.first_stage)
+                scores.append(f"  play {slot} {' '.join(shown_score(match.score).split('-'))}")
+    if scores:
+        found += ["Scores of the playoff that came since, where the same players meet:", *scores]
+    return found
+
+
+def left_in(answer: str, missing: List[Missing]) -> Optional[List[Missing]]:
+    """What an answer leaves to be typed again: `y` all of it, `n` nothing, `but 1 3` all but the first and the
+    third; None if it is no answer.
+    """
+    words = answer.lower().replace(",", " ").split()
+    if words in (["y"], ["yes"], ["n"], ["no"]):
+        return missing if words[0].startswith("y") else []
+    numbers = {int(word) for word in words[1:] if word.isdecimal()}
+    are_there = numbers <= {*range(1, len(missing) + 1)}
+    if words[:1] != ["but"] or not are_there or not 0 < len(numbers) == len(words) - 1:
+        return None
+    return [it for place, it in enumerate(missing, 1) if place not in numbers]
