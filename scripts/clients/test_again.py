@@ -2,6 +2,9 @@
 there in that alone, or nothing is done.
 """
 import os
+import shutil
+import subprocess
+import sys
 
 import pytest
 
@@ -229,6 +232,59 @@ def test_scores_of_the_playoff_are_taken_back(prompt, program, played):
     assert [score for _, _, score in read(played).stages[0]] == [None, (0, 2, 0)]
     prompt.said(played, "play sf1 2 0")
     assert lists(program, played) == before
+
+
+# ---- killed in the middle of the exchange
+
+
+KILLED = """
+import builtins, os, sys
+sys.path.insert(0, {extras!r})
+import companions.files
+from companions.copies import Copies, Copy
+from companions.turn import Turn
+calls = 0
+def stopping(call):
+    def called(*words, **more):
+        global calls
+        calls += 1
+        if calls == {stop}:
+            os._exit(9)
+        return call(*words, **more)
+    return called
+for name in ("open", "rename", "unlink", "fsync", "chmod", "makedirs"):
+    setattr(os, name, stopping(getattr(os, name)))
+builtins.open = stopping(open)
+companions.files.shutil.copyfileobj = stopping(companions.files.shutil.copyfileobj)
+exchange = companions.files.exchange
+import companions.copies
+companions.copies.exchange = stopping(exchange)
+Copies({file!r}, Turn({file!r})).put_in_place(Copy(0, "", "", {new!r}), "plan")
+"""
+
+
+def test_killed_at_each_call_of_the_exchange(program, prompt, played, room, extras):
+    """FILE is the old event or the new one, whole, and the next exchange works."""
+    os.mkdir(f"{room}/new")
+    new = f"{room}/new/e.event"
+    program.played(new, [("enrol", "Only"), ("enrol", "Two")])
+    old_rows, new_rows = rows_alone(played), rows_alone(new)
+    was, stop = [], 0
+    while True:
+        stop += 1
+        file = f"{room}/{stop}.event"
+        shutil.copy(played, file)
+        code = KILLED.format(extras=extras, stop=stop, file=file, new=new)
+        status = subprocess.run([sys.executable, "-S", "-B", "-c", code], timeout=60).returncode
+        rows = rows_alone(file)
+        assert rows in (old_rows, new_rows), f"killed before call {stop}"
+        assert program.run("players", file)[0] == 0, f"killed before call {stop}, it opens"
+        was.append(rows == new_rows)
+        if status == 0:
+            break
+        assert status == 9
+    # first the old one and then the new one
+    assert was == sorted(was) and len(was) > 8 and was[-1] and not was[0]
 
 
 def test_nothing_is_taken_back_while_serve_has_the_file(prompt, played, serve):

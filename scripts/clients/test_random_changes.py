@@ -1,5 +1,5 @@
-"""Random evenings at the prompt, and random changes for which the event is played again: each list is what it was but for the change, or nothing was done
-and the file is the same to the byte. What was taken back is entered again, and gives the old lists.
+"""Random evenings at two prompts and by phones, and random changes for which the event is played again: each list is what it was but for the change, or
+nothing was done and the file is the same to the byte. What was taken back is entered again, and gives the old lists.
 
 The prompt's own module is called, and asks the program, so that hundreds of changes take seconds.
 """
@@ -9,6 +9,7 @@ import io
 import os
 import sys
 import tempfile
+import time
 
 import pytest
 
@@ -49,14 +50,16 @@ class Evening:
         from companions.turn import Turn
 
         self.file, self.dice, self.program = f"{room}/e.event", dice, program
-        self.desk = Desk(OverFile(program.path, self.file, Turn(self.file, makes_file=True)), self.file)
-        self.desk.lines.typing = self.answers = Answers()
+        self.sources = [OverFile(program.path, self.file, Turn(self.file, makes_file=True)) for _ in range(3)]
+        self.desks, self.answers = [Desk(source, self.file) for source in self.sources[:2]], Answers()
+        for desk in self.desks:
+            desk.lines.typing = self.answers
         self.told = []
 
     def say(self, line, says_yes=True):
         self.answers.says_yes = says_yes
         with contextlib.redirect_stdout(io.StringIO()) as said:
-            self.desk.done(line)
+            self.dice.choice(self.desks).done(line)
         self.told.append(f"{line}\n{said.getvalue()}")
         assert "itself is at fault" not in said.getvalue(), self.story()
         return said.getvalue()
@@ -95,11 +98,21 @@ class Evening:
         elif event.phase == SWISS:
             still_open = [at for at, (_, second, score) in enumerate(event.stored[-1], 1) if second and score is None] if event.stored else []
             if still_open and dice.random() < 0.9:
-                self.say(f"{dice.choice(still_open)} {' '.join(map(str, lawful(dice, random_score, is_of_swiss)))}")
+                table, score = dice.choice(still_open), lawful(dice, random_score, is_of_swiss)
+                self.hand_in(event, table, score) if dice.random() < 0.3 else self.say(f"{table} {' '.join(map(str, score))}")
             elif dice.random() < 0.35:
                 self.beside(event)
             else:
                 self.say("cut" if len(event.stored) == event.rounds and event.cut else "pair")
+
+    def hand_in(self, event, table, score):
+        """As a phone does: the score goes to the program, and a report of it lies beside the event."""
+        from companions.reports import STORED, TIME, Report, Reports
+
+        number, said = len(event.stored), "-".join(map(str, score))
+        self.sources[2].report(number, str(table), tuple(map(str, score)))
+        first, second, _ = event.stored[-1][table - 1]
+        Reports(self.file).add(Report(time.strftime(TIME), number, table, first, second, said, STORED, said, "10.0.0.7"))
 
     def beside(self, event):
         """What comes between results."""
