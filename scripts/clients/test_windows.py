@@ -138,6 +138,14 @@ def test_the_cut_in_another_window_is_told(prompt, started):
     assert one.end()[0] == 0
 
 
+def test_the_event_that_another_window_makes_is_told(prompt, room):
+    one = prompt.terminal(f"{room}/e.event")
+    prompt.said(f"{room}/e.event", "init E 3 0")
+    assert "The event was made in another window. See: where" in one.read_for(b"desk> ")
+    check_said("it goes on", one.send("enrol Ana"), "Ana (1) is enrolled.")
+    assert one.end()[0] == 0
+
+
 def test_who_goes_home_has_a_name(prompt, begun, extras):
     """Also where the prompt has shown no name yet."""
     sys.path.insert(0, extras)

@@ -107,6 +107,8 @@ class Session:
     def differences(self, now: Progress) -> list[str]:
         """Between what was told last and what is there now."""
         before = self.known
+        if now.inode and not before.inode:
+            return ["The event was made in another window. See: where"]
         if now.inode != before.inode:
             here = f" This is round {now.number} now." if now.number else ""
             return [f"Another window went back to a copy, or played the event again.{here} See: where"]
