@@ -25,6 +25,8 @@ class Plan:
     name: str
     rounds: int
     cut: int
+    # of the tables: an older program makes version 1
+    version: int = 2
 
     def shown(self, number: int = 0) -> str:
         rounds = f"{self.rounds} round{'s' if self.rounds > 1 else ''}"
@@ -75,8 +77,8 @@ def read_plan(copy: str) -> Optional[Plan]:
         return None
     base = sqlite3.connect(copy)
     try:
-        name, rounds, cut = base.execute("SELECT name, rounds, cut FROM event").fetchone()
-        return Plan(str(name), int(rounds), int(cut))
+        name, *numbers = base.execute("SELECT name, rounds, cut, version FROM event").fetchone()
+        return Plan(str(name), *map(int, numbers))
     except (sqlite3.Error, TypeError, ValueError):
         return None
     finally:

@@ -57,7 +57,7 @@ class Change:
 
     def plan(self, before: Plan) -> Plan:
         rounds = before.rounds if self.rounds is None else self.rounds
-        return Plan(before.name, rounds, before.cut if self.cut is None else self.cut)
+        return replace(before, rounds=rounds, cut=before.cut if self.cut is None else self.cut)
 
     def players(self, before: Players) -> Players:
         """Whoever came after a player who is removed has a number less."""
@@ -232,6 +232,8 @@ def play(course: Course, now: Event, plan: Plan, change: Change, path: str) -> O
 
 def play_from_the_beginning(course: Course, now: Event, plan: Plan, change: Change, replay: Replay) -> None:
     """Up to the newest round."""
+    if plan.version == 1:
+        raise NotTheSame("The file is of version 1, as an older program makes it. First move it: migrate")
     replay.made.ask("init", plan.name, str(plan.rounds), str(plan.cut))
     for number, matches in enumerate(now.rounds, 1):
         course.tell(f"Round {number} of {len(now.rounds)} is played again.")

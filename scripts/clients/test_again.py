@@ -8,8 +8,9 @@ import sys
 
 import pytest
 
-from scripts.clients.event_files import rows_alone, rows_of
+from scripts.clients.event_files import make_old, rows_alone, rows_of
 from scripts.clients.prompt import check_said, match_shown, unfilled
+from scripts.models.plain_event import Event
 from scripts.models.plain_file import read
 
 NAMES = tuple(f"P{number}" for number in range(1, 9))
@@ -125,6 +126,25 @@ def test_what_can_not_be_played_again_is_told(prompt, program, played):
     check_said("a damaged one", prompt.said(played, "copies"), "Round 2: copy ", "from before it, can't be opened")
     os.unlink(f"{played}.keys")
     check_said("without keys", prompt.said(played, "copies"), "Round 1: its key is not in the list of keys")
+
+
+def test_a_file_of_version_1_is_migrated_first(prompt, room):
+    """It would come out in version 2."""
+    file, old = f"{room}/old.event", Event(3, 2, 1)
+    for name in NAMES[:4]:
+        old.enrol(name)
+    old.start()
+    make_old(file, old)
+    rows = rows_alone(file)
+    prompt.said(file, "plan 2 0")
+    check_said("declined", prompt.said(file, "plan 2 0"), "The file is of version 1", "First move it: migrate")
+    assert is_as_it_was(file, rows)
+    prompt.said(file, "pair", "1 2 0", "take back 1", "y")
+    event = read(file)
+    assert (event.version, event.stored[0][0][2]) == (1, None)
+    prompt.said(file, "migrate", "plan 2 0")
+    event = read(file)
+    assert (event.version, event.rounds, event.cut, len(event.stored)) == (2, 2, 0, 1)
 
 
 # ---- what came since a copy

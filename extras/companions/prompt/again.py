@@ -66,6 +66,7 @@ class Again:
     def take_back_score(self, table: str) -> None:
         session = self.session
         event, number = session.event, len(session.event.rounds)
+        event.read()
         if event.phase is not Phase.SWISS:
             raise Declined("That is for the newest of the Swiss rounds. In the playoff, as: take back qf2")
         match = event.match(number, table)
@@ -84,7 +85,7 @@ class Again:
     def must_be_so_still(self, before: Event) -> None:
         """Another window may have done something while a question stood."""
         self.session.look_again()
-        if self.session.event.progress != before.progress:
+        if self.session.event.read() != before.read():
             raise Declined("Another window has changed the event meanwhile. See: where")
 
     def take_back_drop(self, who: str) -> None:
@@ -99,6 +100,7 @@ class Again:
 
     def take_back_slot(self, text: str) -> None:
         session, event = self.session, self.session.event
+        event.read()
         named = words_of_slot(text, event.first_stage) if event.stages else None
         if not named or named[2]:
             raise Declined(TAKE_BACK)
@@ -124,6 +126,7 @@ class Again:
             raise Declined("Type a number or a name, as: remove 38")
         player = self.players.found(rest)
         event = session.event
+        event.read()
         if player.number not in event.enrolled:
             raise Declined(f"No player has number {player.number}. See: players")
         if event.phase not in (Phase.ENROLLING, Phase.SWISS):

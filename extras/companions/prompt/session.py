@@ -67,8 +67,8 @@ class Session:
         # what the prompt has shown of the event, when, and what it knows; and whether it went on itself since
         self.shown, self.shown_at, self.known = Progress(), -math.inf, Progress()
         self.has_moved = False
-        # where no further round was found
-        self.stuck: Optional[Progress] = None
+        # where no further round was found, for so many players
+        self.stuck: Optional[tuple[Progress, int]] = None
         # the round in which it was said that no second copy can be made
         self.round_without_copy: Optional[int] = None
 
@@ -196,7 +196,7 @@ class Session:
         stored, cut = len(self.event.rounds), plan.cut_for(self.players_left())
         end_here = f"plan {stored} {cut}"
         if number == Refusal.NO_PAIRING:
-            self.stuck = self.event.progress
+            self.stuck = self.event.progress, self.players_left()
             playoff = f"To end the rounds here and go on to the playoff: {end_here}, and then cut"
             final = "The standings are final as they are: standings"
             return (
@@ -268,7 +268,7 @@ class Session:
         if not plan:
             return ""
         done, cut = f"round {number} has all its scores", plan.cut_for(left)
-        if number < plan.rounds and self.stuck == event.progress:
+        if number < plan.rounds and self.stuck == (event.progress, left):
             end_here = f"plan {number} {cut}, and then cut" if cut else "standings"
             return f"{done}. No further round can be paired. Next: {end_here}"
         if number == plan.rounds and left < plan.cut:
