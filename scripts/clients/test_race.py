@@ -160,8 +160,10 @@ class Window(Terminal):
         """A line, and an answer to each question."""
         said = self.type(move.line)
         while said.endswith(QUESTION.decode()):
-            answer = "y" if move.says_yes(said) else "n"
-            move.has_declined = move.has_declined or answer == "n"
+            # what came since a copy is not typed again here, since that may be much
+            is_offer = "\nType it again" in said
+            answer = "y" if not is_offer and move.says_yes(said) else "n"
+            move.has_declined = move.has_declined or (answer == "n" and not is_offer)
             said += f"{answer}\n{self.type(answer)}"
         self.look(said)
         move.said = said

@@ -80,10 +80,10 @@ def test_lines_that_were_typed_ahead_are_of_the_round_that_was_shown(prompt, beg
     one = prompt.terminal(begun)
     prompt.said(begun, "2 0 2", "pair")
     one.keys("1 0 2\r2 0 2\r")
-    for table, stored in ((1, "2-0-0"), (2, "0-2-0")):
-        text = one.read_for(f"Table {table} of round 1 has {stored}.".encode()) if table == 1 else one.read_for(b"(y or n) ")
-        check_said(f"table {table} is asked for", text, f"Round 2, table {table}: ", "Is this a score of round 2?")
-    check_said("no", one.send("n"), "Nothing was stored. Table 2 of round 1 has 0-2-0.")
+    text = one.read_for(b"Round 2, table 2: ")
+    check_said("the first is asked for, and the second is no answer", text, "Round 2, table 1: ", "Is this a score of round 2?", "Table 1 of round 1 has 2-0-0.", "Round 2, table 2: ")
+    one.keys("n\r")
+    assert "Nothing was stored. Table 2 of round 1 has 0-2-0." in one.read_for(b"Table 2 of round 1 has 0-2-0."), "and so is the second"
     assert scores(begun, 2) == [None, None]
     assert one.end()[0] == 0
 

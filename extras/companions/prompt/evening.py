@@ -251,7 +251,7 @@ class Evening:
             session.say(*came_since(before, session.event, session.keys))
             return
         session.say("What came since:", *(f"{at:4}  {it.line}" for at, it in enumerate(missing, 1)))
-        question = "Type it again? (y, n, or what to leave out: but 1 3)"
+        question = "Type it again, or but 1 3 to leave some out? (y or n)"
         answer = session.lines.reply(question, lambda text: left_in(text, missing) is not None)
         with unbroken(), session.source.turn.taken():
             for it in left_in(answer, missing) or []:
