@@ -31,6 +31,11 @@ def test_an_evening_through_a_terminal(prompt, room):
     check_said("a name is completed", terminal.read(), "who Zoë <b>", "4   Zoë <b>")
     terminal.keys("stand\t\r")
     check_said("a command is completed", terminal.read(), "standings", "Rank   No Pts")
+    terminal.keys("print stan\t")
+    assert "print standings" in terminal.read_for(b"print standings"), "a part of the sheets is completed"
+    terminal.interrupt()
+    terminal.keys("standings\r")
+    terminal.read()
     terminal.keys("\x1b[A\r")
     check_said("the line before comes again", terminal.read(), "standings", "Rank   No Pts")
     terminal.keys("drop 1")

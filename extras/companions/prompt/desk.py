@@ -24,6 +24,7 @@ from companions.prompt.results import Results
 from companions.prompt.rounds import Rounds
 from companions.prompt.session import Session, prompt_at, why_not_used
 from companions.prompt.texts import ALL_COMMANDS, BEGINNING, COMMANDS, PLAYOFF
+from companions.sheets.parts import PARTS
 
 # the command line's words for what is shorter here, and other spellings; they are taken, and not offered
 ALIASES = ("result", "correct", "slips", "playoff", "exit", "enroll")
@@ -348,6 +349,8 @@ class Desk(cmd.Cmd):
             return offers_of_words(text, (word for word in self.words if word not in ALIASES))
         if name == "import":
             return offers_of_files(part)
+        if name == "print":
+            return offers_of_words(part, PARTS)
         try:
             return offers_of_players(part, self.session.event.players.values()) if name in OF_PLAYERS else []
         except (*FAULTS, OSError):
