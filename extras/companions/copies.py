@@ -19,6 +19,8 @@ from companions.stages import slot_shown
 from companions.turn import Turn
 
 
+# how many copies are kept that are from before something else than a round or the cut
+MOST_OTHERS = 40
 BY_NUMBER = {
     "undrop": "the drop of player {} was taken back",
     "remove": "player {} was removed",
@@ -34,6 +36,10 @@ class Copy:
     when: str
     what: str
     path: str
+
+    @property
+    def is_of_a_round(self) -> bool:
+        return self.what.startswith("before-pair-") or self.what == "before-cut"
 
     def shown(self, players: Players, first_stage: int = 0) -> str:
         day, hour = self.when.split("-")
@@ -89,6 +95,14 @@ class Copies:
     def put_away(self, path: str) -> Optional[Copy]:
         found = re.fullmatch(r".*\.away-(\d{4,})-(\d{8}-\d{6})", path, re.S)
         return Copy(int(found[1]), found[2], "away", path) if found else None
+
+    def thin(self) -> None:
+        """Takes the oldest copies away where there are many: not those from before a round or the cut, from
+        which the event can be played again, nor those that were made by hand or put away.
+        """
+        others = [copy for copy in self.all() if copy.what.startswith("before-") and not copy.is_of_a_round]
+        for copy in others[:-MOST_OTHERS]:
+            remove_with_log(copy.path)
 
     def size(self) -> int:
         """All bytes of the copies, and of what was put away."""

@@ -62,3 +62,22 @@ def test_a_copy_that_can_not_be_written(file, tmp_path):
     second.keep(f"{tmp_path}/stick")
     (tmp_path / "stick" / "e.event.copies").write_text("a file where a folder has to be")
     assert second.copy(copy) in ("Not a directory", "File exists")
+
+
+def test_many_copies_are_thinned(file):
+    """But for those from before a round or the cut, and those made by hand."""
+    copies = Copies(file, Turn())
+    for number in range(1, 31):
+        copies.make(f"drop-{number}")
+        copies.make(f"pair-{number}")
+        copies.make(f"play-1-{number}")
+    copies.make("cut")
+    copies.make_by_hand()
+    copies.thin()
+    left = [copy.what for copy in copies.all()]
+    assert len(left) == 30 + 40 + 2
+    assert [what for what in left if what.startswith("before-pair")] == [f"before-pair-{it}" for it in range(1, 31)]
+    assert {"before-cut", "copy", "before-drop-30", "before-play-1-11"} <= {*left}
+    assert "before-drop-10" not in left
+    copies.thin()
+    assert [copy.what for copy in copies.all()] == left

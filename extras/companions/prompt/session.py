@@ -363,6 +363,7 @@ class Session:
 
     def copy_to_second_place(self, copy: Copy) -> None:
         """Each copy goes to the second place too, if there is one. If it can't, that is said once a round."""
+        self.copies.thin()
         fault = self.second.copy(copy)
         if fault and self.round_without_copy != self.known.number:
             self.round_without_copy = self.known.number
