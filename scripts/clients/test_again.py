@@ -87,6 +87,7 @@ def test_the_dead_end_of_an_event_that_can_not_be_paired(prompt, started):
     text = prompt.said(file, "pair", "cut", "where")
     way = "plan 3 2, and then cut"
     check_said("the way out", unfilled(text), "two would meet again", way, "(refused 10 NoPairing)", way, "(refused 19 RoundsNotDone)", "No further round can be paired. Next: plan 3 2")
+    check_said("where knows it by itself", unfilled(prompt.said(file, "where")), "No further round can be paired. Next: plan 3 2")
     check_said("it leads to the playoff", prompt.said(file, "plan 3 2", "cut", "y", "where"), "The playoff would begin so:", "final")
 
 

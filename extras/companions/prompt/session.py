@@ -4,11 +4,13 @@ from __future__ import annotations
 import contextlib
 import math
 import os
+import tempfile
 import textwrap
 import time
 from dataclasses import dataclass
 from typing import Callable, Optional
 
+from companions.checking import opened
 from companions.copies import Copies, Copy
 from companions.doubts import Doubt, Doubts
 from companions.event import Event, Phase, Progress, shown_player
@@ -202,7 +204,7 @@ class Session:
             return (
                 "In each further round two would meet again, or one would have a second bye.\n"
                 f"{playoff if cut else final}\n"
-                "Or enter somebody who is not there and whom nobody has met: enrol Nobody"
+                "Or enter somebody whom nobody has met, which mostly helps: enrol Nobody"
             )
         if number == Refusal.TOO_FEW_FOR_CUT:
             smaller = f"For a smaller cut: plan {plan.rounds} {cut}, and then cut"
@@ -216,6 +218,20 @@ class Session:
             f"Round {stored + 1} of {plan.rounds} is not paired yet. Next: pair\n"
             f"To end the rounds here: {end_here}, and then cut"
         )
+
+    def try_to_pair(self) -> None:
+        """Has a copy paired, if the next round is due, so that `where` knows if there is none."""
+        event, number = self.event, len(self.event.rounds)
+        if not number or event.open_tables() or self.source.is_served or event.phase is not Phase.SWISS:
+            return
+        with unbroken(), tempfile.TemporaryDirectory() as room:
+            copy = self.copies.made(Copy(0, "", "", os.path.join(room, "next.event")))
+            with opened(self.source, copy) as program:
+                try:
+                    program.ask("pair", str(number + 1), "0" * 64)
+                except Refused as refused:
+                    if refused.number == Refusal.NO_PAIRING:
+                        self.stuck = event.progress, self.players_left()
 
     def players_left(self) -> int:
         return sum(not player.has_dropped for player in self.event.enrolled.values())
@@ -244,6 +260,7 @@ class Session:
 
     def say_where(self) -> None:
         self.look_again()
+        self.try_to_pair()
         self.say_filled(f"{self.title()}, {self.event.phase.value}: {self.next_step()}")
         self.show_now()
         plan = None if self.source.is_served else plan_of(self.file, self.source.turn)
