@@ -1,6 +1,7 @@
 """A file that another program has open stays where it is. The other one locks it as SQLite does."""
 import os
 import sqlite3
+import threading
 
 import pytest
 from companions.copies import Copies, Copy
@@ -20,7 +21,7 @@ def file(tmp_path):
 
 
 def locked(file):
-    base = sqlite3.connect(file, isolation_level=None)
+    base = sqlite3.connect(file, isolation_level=None, check_same_thread=False)
     base.execute("BEGIN EXCLUSIVE")
     return base
 
@@ -76,3 +77,17 @@ def test_what_is_not_there_is_held_by_nobody(tmp_path):
         pass
     with pytest.raises(ZeroDivisionError), held_by_nobody(f"{tmp_path}"):
         raise ZeroDivisionError
+
+
+def test_a_file_that_another_program_has_for_a_moment(file):
+    base = locked(file)
+
+    def put_away():
+        copies = Copies(file, Turn())
+        copies.put_in_place(Copy(1, "20261129-120000", "before-cut", file))
+        return 7
+
+    ending = threading.Timer(0.5, base.close)
+    ending.start()
+    assert in_child(put_away) == 7
+    ending.join()

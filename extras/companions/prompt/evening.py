@@ -228,8 +228,10 @@ class Evening:
         after = self.read_copy(copy)
         if after is None:
             raise Declined(f"This copy can't be opened. Take another one. It lies in {visible(copy.path)}")
-        with held_by_nobody(session.file):
-            session.say(copy.shown(after.players, after.first_stage or session.first_stage))
+        shown = copy.shown(after.players, after.first_stage or session.first_stage)
+        # it is declined before the question too
+        with session.source.turn.taken(), held_by_nobody(session.file):
+            session.say(shown)
         if not session.lines.says_yes("Go on from this copy? The event in use is put away beside it."):
             raise Declined("The event stays as it is.")
         with unbroken(), session.source.turn.taken():
