@@ -302,11 +302,14 @@ def run_screens(room):
     check("the same again", pages.hand_in(1, "2-1-0"), (303, aim))
     check("another one", (pages.hand_in(1, "0-2-0"), results(program, file)[1, 1]), ((303, f"{aim}?said=0-2-0"), "2-1-0"))
     check_said("the prompt", at_the_prompt(program, file, "phones", "fix 1 0 2", "phones"), "fix 1 1 0 2 0", "ok ")
+    # what was stored by the last picture is stored no longer
+    check("the score that was corrected since", pages.hand_in(1, "2-1-0"), (303, f"{aim}?said=2-1-0"))
+    check("the one that took its place", pages.hand_in(1, "0-2-0"), (303, aim))
     check("no match ends so", (pages.hand_in(2, "2-2-0")[0], results(program, file)[1, 2]), (409, ""))
     for table in (2, 3, 4):
         check(f"table {table}", pages.hand_in(table, "2-0-0")[0], 303)
-    check("reports", [it.outcome for it in pages.reports.all], ["stored", "same", "other", "settled", "refused 13", *["stored"] * 3])
-    at_the_prompt(program, file, "pair")
+    check("reports", [it.outcome for it in pages.reports.all], ["stored", "same", "other", "settled", "other", "same", "refused 13", *["stored"] * 3])
+    check_said("pair asks back", at_the_prompt(program, file, "pair", "y"), "a phone says 2-1", "Pair all the same?")
     pages.looking.read()
     status, _, text = pages.ask("GET", aim)
     check("a slip of a round before", (status, "This round is over" in text), (200, True))

@@ -141,6 +141,11 @@ class Looking:
                 self.keep(event, title, stamp[0][0] if stamp[0] else None)
             return True
 
+    def read_if_changed(self) -> None:
+        """At once, where somebody is told what is stored."""
+        if self.stamp_now() != self.stamp:
+            self.read()
+
     def read_all(self, event: Event) -> Tuple[Event, str]:
         """All that is shown, so that nothing is asked later, for a request least of all."""
         event.read()

@@ -328,9 +328,11 @@ class Site(Pages):
                 raise NotNow from None
 
     def stored_score(self, at: AtTable, has_to_be: bool) -> str:
-        """The score that is stored, read again if the picture has none. NotNow where it can't be read, since
-        two scores are told apart by it.
+        """The score that is stored, read again if a command came since or the picture has none. NotNow where it
+        can't be read, since two scores are told apart by it.
         """
+        if has_to_be:
+            self.looking.read_if_changed()
         for _ in range(2):
             found = self.looking.now.match(at.number, at.match.place)
             if found and found.score and (found.first, found.second) == (at.match.first, at.match.second):
