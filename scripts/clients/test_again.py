@@ -47,6 +47,24 @@ def test_plan_keeps_each_list(prompt, program, played):
     check_said("the copy from before it", text, "before the new plan")
 
 
+def test_what_lies_beside_the_event_goes_along(prompt, program, played):
+    """Keys, names, doubts, title, clock, codes and reports: each to the byte."""
+    prompt.said(played, "doubt 1", "doubt 1 2", "rename 3 Pedro", "y", "title Friday", "clock 50")
+    for kind, text in (("phones", f"at http://192.168.1.10:8080\nkey {'ab' * 32}\nboth no\n"), ("reports", "")):
+        with open(f"{played}.{kind}", "w") as it:
+            it.write(text)
+    kinds = "keys", "names", "doubts", "title", "clock", "phones", "reports"
+    before = {kind: open(f"{played}.{kind}", "rb").read() for kind in kinds}
+    os.chmod(played, 0o640)
+    prompt.said(played, "plan 4 2", "take back 3", "y", "3 2 1")
+    assert {kind: open(f"{played}.{kind}", "rb").read() for kind in kinds} == before
+    assert os.stat(played).st_mode & 0o777 == 0o640, "and so does the mode"
+    check_said("the doubts stand", unfilled(prompt.said(played, "doubt")), "In doubt: round 1, table 2", "In doubt: round 2, table 1")
+    prompt.said(played, "take back 1", "y")
+    check_said("one has ended", prompt.said(played, "doubt"), "In doubt: round 1, table 2")
+    assert "round 2, table 1" not in prompt.said(played, "doubt")
+
+
 def test_plan_before_the_start(prompt, program, room):
     file = f"{room}/e.event"
     text = prompt.said(file, "init E 5 4", "enrol Ana", "enrol Bo", "plan", "plan 3 0", "plan 0 4", "plan 3 5", "plan 13 0")
@@ -86,7 +104,7 @@ def test_the_dead_end_of_an_event_that_can_not_be_paired(prompt, started):
         prompt.said(file, "pair", "1 2 0", "2 2 1")
     text = prompt.said(file, "pair", "cut", "where")
     way = "plan 3 2, and then cut"
-    check_said("the way out", unfilled(text), "two would meet again", way, "(refused 10 NoPairing)", way, "(refused 19 RoundsNotDone)", "No further round can be paired. Next: plan 3 2")
+    check_said("the way out", unfilled(text), "two would meet again", way, "(refused 10 NoPairing)", "no further round can be. To end the rounds here: ", way, "(refused 19 RoundsNotDone)", "No further round can be paired. Next: plan 3 2")
     check_said("where knows it by itself", unfilled(prompt.said(file, "where")), "No further round can be paired. Next: plan 3 2")
     check_said("it leads to the playoff", prompt.said(file, "plan 3 2", "cut", "y", "where"), "The playoff would begin so:", "final")
 

@@ -138,6 +138,15 @@ def test_the_cut_in_another_window_is_told(prompt, started):
     assert one.end()[0] == 0
 
 
+def test_a_round_without_a_copy_is_told_at_once(prompt, program, begun):
+    one = prompt.terminal(begun)
+    prompt.said(begun, "2 0 2")
+    program.did("pair", begun, "2", "0" * 64)
+    told = unfilled(one.read_for(b"r2> "))
+    assert "Round 2 was paired in another window. Without a copy from before it, round 2 can't be played again." in told, told
+    assert one.end()[0] == 0
+
+
 def test_the_event_that_another_window_makes_is_told(prompt, room):
     one = prompt.terminal(f"{room}/e.event")
     prompt.said(f"{room}/e.event", "init E 3 0")

@@ -117,7 +117,9 @@ class Session:
         if now.is_cut and not before.is_cut:
             return ["The playoff was begun in another window. See: bracket"]
         if now.number > before.number:
-            return [f"Round {now.number} was paired{self.time_of_pairing(now.number)} in another window."]
+            when = self.time_of_pairing(now.number)
+            no_copy = f"Without a copy from before it, round {now.number} can't be played again."
+            return [f"Round {now.number} was paired{when} in another window.", *[no_copy] * (not when)]
         return [] if now == before else ["The event was changed in another window. See: where"]
 
     def time_of_pairing(self, number: int) -> str:
@@ -214,10 +216,10 @@ class Session:
             )
         if self.event.open_tables() or stored == plan.rounds or not stored:
             return ""
-        return (
-            f"Round {stored + 1} of {plan.rounds} is not paired yet. Next: pair\n"
-            f"To end the rounds here: {end_here}, and then cut"
-        )
+        is_stuck = self.stuck == (self.event.progress, self.players_left())
+        due = f"Round {stored + 1} of {plan.rounds} is not paired yet. Next: pair"
+        none = f"{stored} of {plan.rounds} rounds are paired, and no further round can be."
+        return f"{none if is_stuck else due}\nTo end the rounds here: {end_here}, and then cut"
 
     def try_to_pair(self) -> None:
         """Has a copy paired, if the next round is due, so that `where` knows if there is none."""
