@@ -101,8 +101,8 @@ class Players:
         # those who can't drop are refused without a question
         can_drop = [player for player in players if player.name and not player.has_dropped]
         if can_drop and session.event.phase is Phase.SWISS:
-            named = ", ".join(map(shown_player, can_drop))
-            if not session.lines.says_yes(f"Drop {named}? Nobody who has dropped comes back."):
+            question = f"Drop {', '.join(map(shown_player, can_drop))}?"
+            if not session.lines.says_yes(f"{question} It can be taken back until the next pairing."):
                 raise Declined("Nobody was dropped.")
         for player in players:
             self.drop_one(player)
