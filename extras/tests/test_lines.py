@@ -152,3 +152,21 @@ def test_a_question_is_not_answered_by_the_lines_after_it():
 def test_what_is_no_answer_is_asked_again():
     assert at_terminal("", "hm", "y").says_yes("Drop Ana (1)?")
     assert not at_terminal("maybe", "No").says_yes("Drop Ana (1)?")
+
+
+def test_a_question_stays_within_a_line(capsys):
+    """With a long name most of it stands above, since a plain terminal moves a line that is too long."""
+    asked = []
+
+    class Asking(Typed):
+        def answer(self, question):
+            asked.append(question)
+            return "y"
+
+    lines = at_terminal()
+    lines.typing = Asking()
+    short, long = "Drop Ana (1)?", f"Drop {'Anna-Lena ' * 8}(1)? It can be taken back until the next pairing."
+    assert lines.says_yes(short) and lines.says_yes(long)
+    assert asked == [f"{short} (y or n) ", "(y or n) "]
+    told = capsys.readouterr().out
+    assert told.split() == long.split() and max(map(len, told.split("\n"))) <= 79

@@ -371,8 +371,7 @@ class Race:
             line, acts = f"{line} drop {leaves}", [*acts, act(lambda event: event.drop(leaves))]
 
         def says_yes(said):
-            question = said.rstrip().split("\n")[-1]
-            return question.startswith("Drop ") or slip.is_meant(said)
+            return bool(re.search(r"(?:^|\n)Drop ", said)) or slip.is_meant(said)
 
         return Move(window, line, tuple(acts), says_yes, slip)
 

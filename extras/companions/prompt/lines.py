@@ -7,6 +7,7 @@ import re
 import select
 import signal
 import sys
+import textwrap
 import threading
 from typing import Callable, Iterator, List, Optional, Protocol
 
@@ -21,8 +22,11 @@ except ImportError:
     readline = None  # type: ignore[assignment]
 
 
+# of a line of text, on a terminal of 80 columns
+WIDTH, ROOM_FOR_AN_ANSWER = 79, 10
 # terminals that can't move the cursor
 PLAIN_TERMINALS = ("dumb", "unknown", "")
+YES_OR_NO = "(y or n) "
 NEW_LINE, LINE_AWAY = "\n", "\r\x1b[K"
 
 
@@ -168,12 +172,12 @@ class Input:
         """Whether the answer is yes. The end of the input, Ctrl-C, and a command in place of an answer are a
         no.
         """
-        question = f"{question} (y or n) "
+        question = self.within_a_line(f"{question} (y or n) ")
         while True:
             try:
                 line = self.first_of(self.typing.answer, question) if self.typing else self.line(question)
             except (EOFError, KeyboardInterrupt):
-                print("" if self.is_terminal else question[: -len(" (y or n) ")])
+                print("" if self.is_terminal else question[: -len(YES_OR_NO)].rstrip())
                 return False
             if not self.is_terminal:
                 print(question + visible(line.strip().lower()))
@@ -188,9 +192,17 @@ class Input:
                 return False
 
 
+    def within_a_line(self, question: str) -> str:
+        """A plain terminal moves a line that is as long as it is wide, so a long question stands above it."""
+        if len(question) <= WIDTH - ROOM_FOR_AN_ANSWER:
+            return question
+        asked = question[: -len(YES_OR_NO)]
+        print(textwrap.fill(asked, WIDTH, break_long_words=False, break_on_hyphens=False))
+        return YES_OR_NO
+
     def reply(self, question: str, is_answer: Callable[[str], bool]) -> str:
-        """What is answered at a terminal. The end of the input, Ctrl-C, and a command in place of an answer are
-        a no.
+        """What is answered at a terminal. The end of the input, Ctrl-C, and a command in place of an answer
+        are a no.
         """
         assert self.typing
         while True:

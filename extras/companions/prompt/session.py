@@ -28,7 +28,7 @@ from companions.program import (
     Refused,
     Source,
 )
-from companions.prompt.lines import Input, unbroken
+from companions.prompt.lines import WIDTH, Input, unbroken
 from companions.prompt.texts import (
     BAD_SCORE_OF_PLAYOFF,
     BAD_SETUP,
@@ -44,7 +44,6 @@ from companions.shown_names import ShownNames, with_shown_names
 from companions.stages import slot_shown, slot_typed
 from companions.title import event_name, kept_title
 
-WIDTH = 79
 # neither `pair` nor `cut` goes on
 DEAD_ENDS = (Refusal.NO_PAIRING, Refusal.ROUNDS_NOT_DONE, Refusal.TOO_FEW_FOR_CUT)
 # who types when something is told has not read it by then
