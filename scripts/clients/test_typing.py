@@ -126,7 +126,7 @@ def test_several_names_in_a_line_are_asked_for(prompt, room):
 
 def test_rename_says_who_that_was(prompt, started):
     _, file = started("Björn Åström", "Łukasz Kovalski")
-    check_said("it asks", prompt.said(file, "rename 1 Łukasz Kowalski", "n"), "Number 1 is Björn Åström. Is Łukasz Kowalski the right name? (y or n) n", "Nobody was renamed.")
+    check_said("it asks", prompt.said(file, "rename 1 Łukasz Kowalski", "n"), "Number 1 is Björn Åström. Is Łukasz Kowalski the right name?", "(y or n) n", "Nobody was renamed.")
     check_said("a misspelt one", prompt.said(file, "rename 2 Łukasz Kowalski"), "Łukasz Kovalski (2) is shown as Łukasz Kowalski from now on.")
     check_said("nobody", prompt.said(file, "rename 9 X"), "No player has number 9")
 
