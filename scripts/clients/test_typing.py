@@ -94,7 +94,9 @@ def test_stages_by_their_names(prompt, started):
     assert [score for _, _, score in read(file).stages[2]] == [(1, 2, 0)]
     text = prompt.said(file, "final 2", "final x")
     assert re.findall(r"^ +\d+  P\d \(\d\)$", text, re.M) == re.findall(r"^ +[12]  P\d \(\d\)$", text, re.M) and "Type numbers, such as final 8" in text
-    check_said("who", prompt.said(file, f"who {read(file).stages[2][0][0]}"), "quarterfinal ", "semifinal ", "final: ")
+    text = prompt.said(file, f"who {read(file).stages[2][0][0]}")
+    check_said("who", text, "quarterfinal ", "semifinal ", "final: ")
+    assert text.count("table ") == 1, "a seat of the round before the playoff"
     check_said("copies", prompt.said(file, "back"), "before the score of quarterfinal 2", "before the score of semifinal 1", "before the score of the final")
 
 

@@ -84,6 +84,9 @@ class Players:
 
     def seat_of(self, player: Player) -> str:
         event = self.session.event
+        # nobody sits at the tables of the rounds any more
+        if event.phase is not Phase.SWISS:
+            return ""
         for match in event.newest():
             if match.has(player.number):
                 return "  bye" if match.is_bye else f"  table {match.place}: {event.shown(match)}"
