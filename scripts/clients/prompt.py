@@ -333,7 +333,8 @@ class Terminal:
         """The status, and what is said at the end."""
         self.keys(keys)
         said = self.read(ends=(b"\0",))
-        return self.ended(), said
+        # pressed again, if they came before it waited for one
+        return self.ended(keys), said
 
     def ended(self, keys=""):
         """The status once it has ended. The keys are pressed each second until then, since those that come just before it waits for one are dropped; a

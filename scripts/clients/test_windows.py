@@ -83,7 +83,7 @@ def test_lines_that_were_typed_ahead_are_of_the_round_that_was_shown(prompt, beg
     text = one.read_for(b"Round 2, table 2: ")
     check_said("the first is asked for, and the second is no answer", text, "Round 2, table 1: ", "Is this a score of round 2?", "Table 1 of round 1 has 2-0-0.", "Round 2, table 2: ")
     one.keys("n\r")
-    assert "Nothing was stored. Table 2 of round 1 has 0-2-0." in one.read_for(b"Table 2 of round 1 has 0-2-0."), "and so is the second"
+    assert "Nothing was stored. Table 2 of round 1 has 0-2-0." in one.read_for(b"r2> "), "and so is the second"
     assert scores(begun, 2) == [None, None]
     assert one.end()[0] == 0
 
