@@ -8,8 +8,8 @@ judge, as a function that calls another one that is refused, is tried again with
 
 An answer of the function may merely no longer fit the changed body, and no goal of the contract stay open beside it. Such a wrong body is tried once
 more without the function's answers. That verdict counts only if the function as it is in the source is proved without them too. If it isn't, it would be
-refused whatever its body does, so the wrong body is `unclear`. A line `unclear:` in the edit names the goal that stayed open with answers that were
-mended for it by hand, and where it is false; with `--strict` one without such a line fails the run. The invariants stay, since no loop is proved without them.
+refused whatever its body does, so the wrong body is `unclear`. A line `unclear:` in the edit names a goal that the check left open, and where
+somebody who read it found it to be false; with `--strict` one without such a line fails the run. The invariants stay, since no loop is proved without them.
 
 The edits of crates/NAME/controls change nothing that a function means: a space more, a `match` in place of an `if`, another name for a local. None of
 them may be refused, or what this says of wrong bodies is worth nothing. One of each crate is tried each time, all where no turn is given.

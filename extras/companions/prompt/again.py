@@ -5,7 +5,8 @@ import re
 
 from companions.event import Event, Phase, shown_player
 from companions.names import begun
-from companions.program import Declined
+from companions.plan import CUTS
+from companions.program import MOST_ROUNDS, Declined
 from companions.prompt.lines import numbers_in
 from companions.prompt.players import Players
 from companions.prompt.replays import plan_now, play_again
@@ -19,8 +20,6 @@ Type what is to be taken back:
   take back drop 7  the drop of player 7
   take back sf1     the score of semifinal 1, if the final has none
 For an older round: fix 1 9 2 0. For a pairing: back"""
-CUTS = (0, 2, 4, 8)
-MOST_ROUNDS = 12
 
 
 class Again:

@@ -10,7 +10,7 @@ import time
 from dataclasses import dataclass
 from typing import Callable, Optional
 
-from companions.checking import opened
+from companions.checking import copies_before, opened
 from companions.copies import Copies, Copy
 from companions.doubts import Doubt, Doubts
 from companions.event import Event, Phase, Progress, shown_player
@@ -123,7 +123,7 @@ class Session:
 
     def time_of_pairing(self, number: int) -> str:
         """As: , at 10:43, - if the copy that was made before it is there."""
-        made = [copy for copy in self.copies.all() if copy.what == f"before-pair-{number}"]
+        made = copies_before(self.copies, number)
         return f", at {made[-1].when[9:11]}:{made[-1].when[11:13]}," if made else ""
 
     @property
