@@ -1,4 +1,5 @@
-"""Counts the instructions of a program by valgrind's callgrind: of a script, of what one more command costs, and of command lines over a file.
+"""Counts the instructions of a program by valgrind's callgrind: of a script, of what one more command costs, and of command lines over a file:
+`python3 -B -m scripts.bench.counts PROGRAM [PEER ..]`. Each PEER is counted on the scripts beside it.
 
 callgrind takes each byte of `rep movsb` for an instruction of its own, so the C library is asked to copy without it. Figures differ a little with
 that library's version.
@@ -9,14 +10,14 @@ import subprocess
 import sys
 import tempfile
 
-from scripts.bench.evenings import enrolled, played, seed
+from scripts.bench.evenings import enrolled, played, seed, to_the_champion
 
-program = os.path.abspath(sys.argv[1])
+program, *peers = map(os.path.abspath, sys.argv[1:])
 WITHOUT_REP = {**os.environ, "GLIBC_TUNABLES": "glibc.cpu.hwcaps=-ERMS,-FSRM"}
 ROUNDS = 9
 
 
-def count(words, lines=()):
+def count(words, lines=(), program=program):
     """The instructions, in millions, of a run with these words and these lines on its input."""
     script = "".join(f"{line}\n" for line in lines).encode()
     with tempfile.TemporaryDirectory() as room:
@@ -25,9 +26,14 @@ def count(words, lines=()):
     return int(re.search(rb"Collected : (\d+)", ran.stderr)[1]) / 1_000_000
 
 
-def one_more(lines, line):
-    """What one more line of a script costs."""
-    return count([], [*lines, line]) - count([], lines)
+def one_more(lines, *more, program=program):
+    """What more lines of a script cost."""
+    return count([], [*lines, *more], program) - count([], lines, program)
+
+
+def beside(name, counted):
+    """Prints what is counted of the program, and of each peer."""
+    print(f"{name}: {', '.join(f'{counted(it):.1f}' for it in (program, *peers))}", flush=True)
 
 
 def event_file(room, players):
@@ -45,9 +51,12 @@ def event_file(room, players):
 
 
 print("millions of instructions")
-print(f"512 enrolments: {count([], enrolled(512, ROUNDS)):.1f}")
-print(f"512 players over nine rounds: {count([], played(512, ROUNDS)):.1f}")
-print(f"`standings` after them: {one_more(played(512, ROUNDS), 'standings'):.1f}")
+beside("512 enrolments", lambda it: count([], enrolled(512, ROUNDS), it))
+beside("512 players over nine rounds", lambda it: count([], played(512, ROUNDS), it))
+beside("`standings` after them", lambda it: one_more(played(512, ROUNDS), "standings", program=it))
+beside("500 `standings` after one round", lambda it: one_more(played(512, 1), *["standings"] * 500, program=it))
+beside("`standings` after each result of 64 players", lambda it: count([], played(64, ROUNDS, after_each=["standings"]), it))
+beside("32 players to the champion", lambda it: count([], to_the_champion(32, 5, 8), it))
 with tempfile.TemporaryDirectory() as room:
     path = event_file(room, 512)
     print(f"`players` over a file of 512 players after nine rounds: {count(['players', path]):.1f}")

@@ -1,9 +1,33 @@
 //! The same script language as the scorekeeper's program, as a good engineer would write it in plain Rust: a measure for its times. It keeps
 //! an event in memory alone, with no tables and no proofs. It is independent of the program and of the models in Python on purpose, its
-//! standings and its search too.
+//! standings and its search too. Built with `--cfg sqlite`, it keeps the event's rows in C SQLite too, and reads the standings from there.
 use std::cmp::Reverse;
 use std::io::{Read, Write};
 use std::process::ExitCode;
+
+#[cfg(sqlite)]
+#[path = "sqlite_rows.rs"]
+mod rows;
+
+/// The rows of an event that is in memory only: none.
+#[cfg(not(sqlite))]
+mod rows {
+    pub struct Rows;
+
+    impl Rows {
+        pub fn new() -> Rows {
+            Rows
+        }
+
+        pub fn keep(&self, _event: &crate::Event, _words: &[&str]) {}
+
+        pub fn standings(&self, event: &crate::Event) -> Vec<crate::Row> {
+            event.standings()
+        }
+    }
+}
+
+use rows::Rows;
 
 const MAX_ROUNDS: usize = 12;
 const BASE: u128 = 27_720;
@@ -197,6 +221,27 @@ fn hundredths(share: u128) -> u128 {
     100 * percent + (200 * rest + WHOLE) / (2 * WHOLE)
 }
 
+/// The standings by the totals of each player, and who met whom.
+fn ranked(tallies: &[Tally], meetings: impl Iterator<Item = (u16, u16)>) -> Vec<Row> {
+    let wins: Vec<u128> = tallies.iter().map(|t| percentage(u128::from(t.points), u128::from(t.rounds))).collect();
+    let games: Vec<u128> = tallies.iter().map(|t| percentage(u128::from(t.game_points), u128::from(t.games))).collect();
+    let mut opponents = vec![Vec::with_capacity(MAX_ROUNDS); tallies.len()];
+    for (a, b) in meetings {
+        opponents[usize::from(a)].push(b);
+        opponents[usize::from(b)].push(a);
+    }
+    let over = |met: &[u16], of: &[u128]| average(&met.iter().map(|p| of[usize::from(*p)]).collect::<Vec<_>>());
+    let mut rows: Vec<Row> = (1..tallies.len())
+        .map(|p| Row { rank: 0, number: p, points: tallies[p].points, shares: [over(&opponents[p], &wins), games[p], over(&opponents[p], &games)] })
+        .collect();
+    rows.sort_unstable_by_key(|row| (Reverse((row.points, row.shares)), row.number));
+    for place in 0..rows.len() {
+        let is_tied = place > 0 && (rows[place - 1].points, rows[place - 1].shares) == (rows[place].points, rows[place].shares);
+        rows[place].rank = if is_tied { rows[place - 1].rank } else { place + 1 };
+    }
+    rows
+}
+
 impl Event {
     fn lines(&self) -> impl Iterator<Item = &Match> + '_ {
         self.stored.iter().filter(|round| is_complete(round)).flatten()
@@ -221,24 +266,7 @@ impl Event {
     }
 
     fn standings(&self) -> Vec<Row> {
-        let tallies = self.tallies();
-        let wins: Vec<u128> = tallies.iter().map(|t| percentage(u128::from(t.points), u128::from(t.rounds))).collect();
-        let games: Vec<u128> = tallies.iter().map(|t| percentage(u128::from(t.game_points), u128::from(t.games))).collect();
-        let mut opponents = vec![Vec::with_capacity(MAX_ROUNDS); tallies.len()];
-        for m in self.lines().filter(|m| m.b != 0) {
-            opponents[usize::from(m.a)].push(m.b);
-            opponents[usize::from(m.b)].push(m.a);
-        }
-        let over = |met: &[u16], of: &[u128]| average(&met.iter().map(|p| of[usize::from(*p)]).collect::<Vec<_>>());
-        let mut rows: Vec<Row> = (1..tallies.len())
-            .map(|p| Row { rank: 0, number: p, points: tallies[p].points, shares: [over(&opponents[p], &wins), games[p], over(&opponents[p], &games)] })
-            .collect();
-        rows.sort_unstable_by_key(|row| (Reverse((row.points, row.shares)), row.number));
-        for place in 0..rows.len() {
-            let is_tied = place > 0 && (rows[place - 1].points, rows[place - 1].shares) == (rows[place].points, rows[place].shares);
-            rows[place].rank = if is_tied { rows[place - 1].rank } else { place + 1 };
-        }
-        rows
+        ranked(&self.tallies(), self.lines().filter(|m| m.b != 0).map(|m| (m.a, m.b)))
     }
 
     fn active(&self) -> impl Iterator<Item = u16> + '_ {
@@ -425,16 +453,16 @@ impl Event {
         if self.players[number - 1].dropped { 'D' } else { ' ' }
     }
 
-    fn players_text(&self, out: &mut Vec<u8>) {
+    fn players_text(&self, _rows: &Rows, out: &mut Vec<u8>) {
         out.extend(b"  No D Name\n");
         for (player, number) in self.players.iter().zip(1..) {
             let _ = writeln!(out, "{number:>4} {} {}", self.mark(number), player.name);
         }
     }
 
-    fn standings_text(&self, out: &mut Vec<u8>) {
+    fn standings_text(&self, rows: &Rows, out: &mut Vec<u8>) {
         out.extend(b"Rank   No Pts    OMW    GWP    OGW D Name\n");
-        for row in self.standings() {
+        for row in rows.standings(self) {
             let _ = write!(out, "{:>4} {:>4} {:>3}", row.rank, row.number, row.points);
             for share in row.shares {
                 let n = hundredths(share);
@@ -460,7 +488,7 @@ impl Event {
         Ok(())
     }
 
-    fn bracket_text(&self, out: &mut Vec<u8>) {
+    fn bracket_text(&self, _rows: &Rows, out: &mut Vec<u8>) {
         out.extend(b" Stg Slot    A    B Score Names\n");
         for (matches, stage) in self.bracket.iter().zip(1..) {
             for (m, slot) in matches.iter().zip(1..) {
@@ -505,7 +533,7 @@ fn games_of(words: &[&str]) -> Option<Games> {
 }
 
 /// What a line is answered: nothing where its words mean nothing.
-fn answer(event: &mut Option<Event>, line: &[u8], out: &mut Vec<u8>) -> Option<Result<(), Refusal>> {
+fn answer(event: &mut Option<Event>, rows: &Rows, line: &[u8], out: &mut Vec<u8>) -> Option<Result<(), Refusal>> {
     let line = std::str::from_utf8(line).ok()?;
     let words: Vec<&str> = line.split('\t').collect();
     if words.iter().any(|word| word.starts_with('-')) {
@@ -519,18 +547,20 @@ fn answer(event: &mut Option<Event>, line: &[u8], out: &mut Vec<u8>) -> Option<R
         if event.is_some() {
             return Some(Err(EVENT_EXISTS));
         }
-        *event = Some(Event { rounds, cut, phase: Phase::Enrolling, players: vec![], stored: vec![], bracket: vec![], serial: 0 });
+        let new = Event { rounds, cut, phase: Phase::Enrolling, players: vec![], stored: vec![], bracket: vec![], serial: 0 };
+        rows.keep(&new, &words);
+        *event = Some(new);
         out.extend(b"ok 0\n");
         return Some(Ok(()));
     }
-    let shows: Option<fn(&Event, &mut Vec<u8>)> = match words[..] {
+    let shows: Option<fn(&Event, &Rows, &mut Vec<u8>)> = match words[..] {
         ["players"] => Some(Event::players_text),
         ["standings"] => Some(Event::standings_text),
         ["bracket"] => Some(Event::bracket_text),
         _ => None,
     };
     if let Some(shows) = shows {
-        return Some(event.as_ref().map(|event| shows(event, out)).ok_or(NO_EVENT));
+        return Some(event.as_ref().map(|event| shows(event, rows, out)).ok_or(NO_EVENT));
     }
     if let ["slips", round] = words[..] {
         let round = number(round, 256)?;
@@ -565,6 +595,7 @@ fn answer(event: &mut Option<Event>, line: &[u8], out: &mut Vec<u8>) -> Option<R
     }
     Some(change(event).map(|()| {
         event.serial += 1;
+        rows.keep(event, &words);
         let _ = writeln!(out, "ok {}", event.serial);
     }))
 }
@@ -578,10 +609,10 @@ fn main() -> ExitCode {
     if script.len() > 65_536 {
         return ExitCode::from(if stdout.write_all(b"usage\n").is_ok() { 2 } else { 3 });
     }
-    let (mut event, mut out) = (None, Vec::new());
+    let (mut event, rows, mut out) = (None, Rows::new(), Vec::new());
     for line in script.split(|b| *b == b'\n').filter(|line| !line.is_empty()) {
         out.clear();
-        match answer(&mut event, line, &mut out) {
+        match answer(&mut event, &rows, line, &mut out) {
             Some(Ok(())) => {}
             Some(Err((number, name))) => {
                 let _ = writeln!(out, "refused {number} {name}");

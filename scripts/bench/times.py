@@ -1,16 +1,14 @@
-"""Times two programs on the same scripts, one run of each in turn, and prints the best of each and the ratio. What they print has to be equal
-to the byte.
+"""Times programs on the same scripts, one run of each in turn: `python3 -B -m scripts.bench.times RUNS PROGRAM PEER ..`. It prints the best of each,
+and how many times as long the program takes as each peer. What they print has to be equal to the byte.
 """
+import os
 import subprocess
 import sys
 import time
 
 from scripts.bench.evenings import enrolled, played, to_the_champion
 
-ours, peer = sys.argv[1:3]
-RUNS = int(sys.argv[3]) if len(sys.argv) > 3 else 7
-
-
+RUNS, PROGRAMS = int(sys.argv[1]), sys.argv[2:]
 CASES = {
     "512 enrolments": enrolled(512, 9),
     "512 players over nine rounds": played(512, 9),
@@ -30,17 +28,18 @@ def run(program, script):
 
 
 wrong = 0
-print(f"best of {RUNS} runs each, in milliseconds, with the start of the process")
+print(f"best of {RUNS} runs each, in milliseconds, with the start of the process: {', '.join(map(os.path.basename, PROGRAMS))}")
 for name, lines in CASES.items():
     script = "".join(f"{line}\n" for line in lines).encode()
-    times, said = {ours: [], peer: []}, {}
+    times, said = {it: [] for it in PROGRAMS}, {}
     for _ in range(RUNS):
-        for program in (ours, peer):
+        for program in PROGRAMS:
             taken, said[program] = run(program, script)
             times[program].append(taken)
-    if said[ours] != said[peer] or b"refused" in said[ours][1] or b"usage" in said[ours][1]:
+    first = said[PROGRAMS[0]]
+    if any(it != first for it in said.values()) or b"refused" in first[1] or b"usage" in first[1]:
         wrong += 1
-        print(f"{name}: the two differ, or a command was refused", file=sys.stderr)
-    best, other = 1000 * min(times[ours]), 1000 * min(times[peer])
-    print(f"{name:<50} {best:9.1f} {other:9.1f}   {best / other:6.1f} times")
+        print(f"{name}: they differ, or a command was refused", file=sys.stderr)
+    ours, *others = [1000 * min(it) for it in times.values()]
+    print(f"{name:<50} {ours:9.1f}", *[f"{it:9.1f} {ours / it:6.1f} times" for it in others])
 sys.exit(1 if wrong else 0)

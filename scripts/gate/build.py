@@ -1,5 +1,6 @@
 """Proves the crates that the program stands on and then the program, the lowest first, with all processors, and builds it. It says on
-standard error which crate it is at.
+standard error which crate it is at. Rattle's own compiler takes less than a minute, so that its program is there first. LLVM's, which is faster, takes
+its place.
 
 In a fresh checkout all is proved from nothing, as by `rt ci`: each crate over what those below it state, and over none of their proofs. What a
 crate came to is kept with what it was made from: its sources, the toolchain, and the libraries below as they were written. A later build takes
@@ -7,11 +8,11 @@ it while these are the same. Where checks have kept work in a crate's folder, th
 below to itself until it ends, so that no two got on side by side; here the folders are taken once, for all.
 """
 import concurrent.futures
+import contextlib
 import copy
 import json
 import os
 import shutil
-import subprocess
 import sys
 import tempfile
 
@@ -22,15 +23,37 @@ rt = toolchain.load()
 
 
 class Crate(rt.Crate):
-    """A crate as `rt ci` takes it, but that a library isn't asked for contracts which no call meets, and that one compiler makes the program."""
+    """A crate as `rt ci` takes it, but that a library isn't asked for contracts which no call meets, and that the program of one compiler is kept."""
 
     def prove_library(self, flags):
         shutil.rmtree(os.path.dirname(self.rlib), ignore_errors=True)
         os.makedirs(os.path.dirname(self.rlib))
         return self.call(rt.rtlib.RATTLE, "build", *self.words(flags, keeps=False), "--statements", "-o", self.rlib)
 
+    def prove(self, *commands):
+        """Over work that checks have kept there is no verdict, as `rt ci` wants one; each command has to end well all the same."""
+        if self.cuts_libraries:
+            return super().prove(*commands)
+        return max(self.call(rt.rtlib.RATTLE, *it) for it in commands)
+
     def compile_by(self, backend, words, to):
-        return super().compile_by(backend, words, to) if backend == "llvm" else 0
+        """Has each compiler's program take the place of the one that is there, first that of Rattle's own. What runs keeps its file."""
+        if backend == "rattle":
+            # it was there before LLVM's
+            return 0
+        self.replace_by("rattle", words, to, "the program can be run now. LLVM's takes its place in some minutes")
+        return self.replace_by("llvm", words, to, "the program is LLVM's")
+
+    def replace_by(self, backend, words, to, said):
+        """Says that there is a program by this compiler, if there is one, and puts it there."""
+        status = super().compile_by(backend, words, f"{to}.new")
+        made = f"{self.folder}/{to}.new{rt.BACKENDS[backend]}"
+        if status == 0 and os.path.isfile(made):
+            print(f"event_reporter: {said}", file=sys.stderr, flush=True)
+            os.replace(made, f"{self.folder}/{to}")
+        with contextlib.suppress(FileNotFoundError):
+            os.remove(f"{made}.o")
+        return status
 
     def product(self):
         """The file by which it is seen that its library or the program was made, and is still the one that was."""
@@ -64,19 +87,21 @@ def height(crate, wanted):
 def prove(crate, jobs, is_anew):
     """Whether the crate is proved, and what the toolchain said of it."""
     crate = copy.copy(crate)
+    if crate.is_program and (said := crate.said_before()) is not None:
+        return crate.name, True, said
     with tempfile.TemporaryFile("a+", errors="replace") as crate.out:
         os.makedirs(f"{crate.folder}/out", exist_ok=True)
         # the program is a few functions over all libraries, and each process reads them all
         flags = ["--jobs", "1" if crate.is_program else str(jobs)]
-        if not is_anew:
-            status = crate.build_rlib(flags, anew=False)
-        elif crate.is_program:
+        if crate.is_program:
             status = crate.ci(flags, False)
-        else:
+        elif is_anew:
             status = crate.prove_library(flags)
+        else:
+            status = crate.build_rlib(flags, anew=False)
         crate.out.seek(0)
         said = crate.out.read()
-        if is_anew and status == 0:
+        if status == 0 and (is_anew or crate.is_program):
             crate.keep(said)
         return crate.name, status == 0, said
 
@@ -142,15 +167,12 @@ def main():
     crates = rt.rtlib.crates_below(TOP)
     program = next(it for it in crates if it.name == sys.argv[1])
     is_anew = not any(it.has_kept() for it in program.below())
-    if is_anew:
-        Crate.allowed, Crate.cuts_libraries = rt.handles_of(TOP), True
-    held = rt.rtlib.lock([*program.below(), program])
-    prove_all([*program.below(), *([program] if is_anew else [])], is_anew)
+    Crate.allowed, Crate.cuts_libraries = rt.handles_of(TOP), is_anew
+    wanted = [*program.below(), program]
+    held = rt.rtlib.lock(wanted)
+    prove_all(wanted, is_anew)
     for it in held:
         os.close(it)
-    if not is_anew:
-        print("event_reporter: building the program", file=sys.stderr, flush=True)
-        sys.exit(subprocess.run(["rt", "run"], cwd=program.folder, stdin=subprocess.DEVNULL).returncode)
 
 
 if __name__ == "__main__":

@@ -1,4 +1,5 @@
-"""Counts the definitions of the repository that the contract of a function rests on, by crate: `python3 -B -m scripts.gate.definitions er_cli run_from`.
+"""Counts the definitions of the repository that the contract of a function rests on, by crate: `python3 -B -m scripts.gate.definitions er_cli run_from`, and
+each clause alone.
 
 A definition is an `abbrev`, an `unfoldable`, a record or a data type of a `specs/` file. It rests on each definition that its text names, by an import,
 a module's short name or in its own file; a function's contract on those that its clauses name. What comes from source, as a struct, and what is the
@@ -16,6 +17,7 @@ from scripts import TOP
 
 HEAD = re.compile(r"^(  )*(?:abbrev |unfoldable )?(?:pub )?(?:(?:record|data) (\w+)(?! \{$)|([\w']+) *:)")
 USE = re.compile(r"^(?:ghost )?use (?:Rattle|crate)\.([\w.]+?)(?:\.(\{.*\}))?(?: as (\w+))?;?$")
+CLAUSE = re.compile(r"^ *(?:ensures|requires) *(\w*) *(?=\{)", re.M)
 WORD = re.compile(r"[A-Za-z_][\w']*(?:\.[A-Za-z_][\w']*)*")
 
 
@@ -75,19 +77,35 @@ def named(text, names, module, found):
                 break
 
 
-def of_function(crate, function, found):
-    """What the contract of a function names."""
+def clauses_of(crate, function, found):
+    """What each clause of a function's contract names, by the clause's name."""
     for path in sorted(glob.glob(f"{TOP}/crates/{crate}/src/**/*.rt", recursive=True)):
         with open(path, encoding="utf-8") as it:
             text = it.read()
-        head = re.search(rf"^ *pub fn {function}\b.*?^ *(?:ensures|requires)(.*?)^ *\{{$", text, re.M | re.S)
+        head = re.search(rf"^ *(?:pub )?fn {function}\b.*?^ *\{{$", text, re.M | re.S)
         if head:
             names = {}
             for line in re.sub(r"\{\n?(.*?)\}", lambda it: it[0].replace("\n", " "), text, flags=re.S).split("\n"):
                 imported(line, names)
-            clauses = re.sub(r"//.*", "", head[1])
-            return set(named(clauses, names, "", found))
-    return set()
+            _, *parts = CLAUSE.split(re.sub(r"//.*", "", head[0]))
+            named_so = zip(parts[::2], parts[1::2])
+            return {name or "its only one": set(named(clause, names, "", found)) for name, clause in named_so}
+    return {}
+
+
+def reached_from(left, found):
+    """These definitions, and all that they rest on."""
+    left, reached = set(left), set()
+    while left:
+        at = left.pop()
+        reached.add(at)
+        lines, names, _ = found[at]
+        left |= set(named("\n".join(lines), names, at.rsplit(".", 1)[0], found)) - reached
+    return reached
+
+
+def size_of(reached, found):
+    return f"{len(reached)} definitions, {sum(len(found[at][0]) for at in reached)} lines"
 
 
 def called_alike(found):
@@ -102,6 +120,7 @@ def main():
     words = argparse.ArgumentParser(description="Counts the definitions that the contract of a function rests on.")
     words.add_argument("crate", nargs="?")
     words.add_argument("function", nargs="?")
+    words.add_argument("--clause", help="count what this clause rests on, in place of the whole contract")
     words.add_argument("--names", action="store_true", help="name each of them, with its lines")
     words.add_argument("--twice", action="store_true", help="name the definitions that two modules call alike, in place of all that")
     said = words.parse_args()
@@ -114,22 +133,23 @@ def main():
         return 1 if alike else 0
     if not said.function:
         words.error("name a crate and a function of it, or --twice")
-    reached, left = set(), of_function(said.crate, said.function, found)
-    while left:
-        at = left.pop()
-        reached.add(at)
-        lines, names, _ = found[at]
-        left |= set(named("\n".join(lines), names, at.rsplit(".", 1)[0], found)) - reached
-    count, size = collections.Counter(), collections.Counter()
-    for at in sorted(reached):
-        crate = at.split(".", 1)[0]
-        count[crate] += 1
-        size[crate] += len(found[at][0])
-        if said.names:
+    clauses = clauses_of(said.crate, said.function, found)
+    if said.clause and said.clause not in clauses:
+        words.error(f"{said.function} has the clauses {', '.join(clauses)}")
+    asked = [clauses[said.clause]] if said.clause else clauses.values()
+    reached = reached_from(set().union(*asked), found)
+    if said.names:
+        for at in sorted(reached):
             print(f"{len(found[at][0]):4} {at}")
-    for crate in sorted(count, key=lambda it: -count[it]):
-        print(f"{crate}: {count[crate]} definitions, {size[crate]} lines")
-    print(f"all: {sum(count.values())} definitions, {sum(size.values())} lines")
+    by_crate = collections.defaultdict(set)
+    for at in reached:
+        by_crate[at.split(".", 1)[0]].add(at)
+    for crate in sorted(by_crate, key=lambda it: -len(by_crate[it])):
+        print(f"{crate}: {size_of(by_crate[crate], found)}")
+    if not said.clause:
+        for name, it in clauses.items():
+            print(f"clause {name}: {size_of(reached_from(it, found), found)}")
+    print(f"all: {size_of(reached, found)}")
     return 0
 
 

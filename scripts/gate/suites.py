@@ -1,58 +1,132 @@
-"""Runs parts of the test command: suites of pytest, and scripts that are no suites yet. A word with a `/` in it is a file, a folder or one case of
-pytest's, and what pytest takes besides goes on to it: `scripts/test csv -k UTF`.
+"""Runs parts of the test command: suites of pytest, and scripts that are no suites. A word with a `/` in it is a file, a folder or one case of pytest's, and
+what pytest takes besides goes on to it: `scripts/test csv -k UTF`.
 """
 import argparse
+import concurrent.futures
+import contextlib
+import functools
+import os
+import shutil
 import subprocess
 import sys
+import tempfile
 
 from scripts import TOP, commit_time
 
 BUILT = "crates/event_reporter/out/event_reporter"
 # words of a line: what stands for what is given, and of two numbers the second with --long
-PROGRAM, SEED, LONG = "{program}", "{seed}", "{long}"
+PROGRAM, SEED = "{program}", "{seed}"
+# libraries that are loaded before the program, and their sources
+STOP, REFUSE = "{stop}", "{refuse}"
+LIBRARIES = {STOP: "stop_nth.c", REFUSE: "refuse_nth.c"}
 
 
 def module(name, *words):
-    return [sys.executable, "-B", "-m", f"scripts.{name}", *words]
+    return ["{python}", "-B", "-m", f"scripts.{name}", *words]
 
 
-def bash(name, *words):
-    return ["bash", f"scripts/{name}", *words]
+# ---- what is no suite
 
 
-# the suites of each part, by their names, and the lines of what is no suite yet; each part may run beside the others
+def types_of_companions(_given, _rest):
+    if shutil.which("mypy") is None:
+        print("left out: types of the companions, as mypy is not installed", flush=True)
+        return True
+    with tempfile.TemporaryDirectory() as room:
+        return passes(["mypy", "--config-file", "extras/mypy.ini", "--cache-dir", room, "extras/companions"])
+
+
+def tests_of_companions(_given, rest):
+    """They need no program, and are counted by pytest."""
+    return passes([python(), "-B", "-m", "pytest", "-q", "-p", "no:cacheprovider", "extras/tests", *rest])
+
+
+def crash(is_long):
+    # the seed, and three more
+    yield [module("faults.stops", PROGRAM, (100, 2500), f"{{seed{at}}}") for at in range(4 if is_long else 1)]
+    for name in ("stop_serving", "stop_refused", "stop_making"):
+        yield module(f"faults.{name}", PROGRAM, STOP)
+    yield module("faults.stop_calls", PROGRAM, STOP, (0, 20), SEED)
+
+
+def oom(is_long):
+    yield module("faults.refused_pair", PROGRAM, REFUSE)
+    yield module("faults.refused_beside", PROGRAM, REFUSE)
+    if is_long:
+        yield module("faults.refused_examples", PROGRAM, REFUSE, "2")
+        return
+    for name, answers in (("friday", "crates/event_reporter/stdout"), ("corrected", "examples/corrected.answers"), ("playoff", "examples/playoff.answers")):
+        yield module("faults.refused_memory", PROGRAM, REFUSE, f"examples/{name}.txt", answers)
+    yield module("faults.refused_file_memory", PROGRAM, REFUSE, "40")
+    yield module("faults.refused_http_memory", PROGRAM, REFUSE, "40")
+
+
+def corruption(is_long):
+    yield module("faults.damage_edits", PROGRAM, *["all"] * is_long)
+    yield module("faults.damage", PROGRAM, STOP, (200, 20_000), SEED, "2", "12", (25, 400))
+
+
+def package(is_long):
+    yield "package/test_version.py"
+    yield "package/test_release.py"
+    yield module("package.run_wrapper")
+    if is_long:
+        yield module("package.systems")
+
+
+# the suites of each part, by their names, and what is no suite: lines, lines that go side by side, and functions; each part may run beside the others
 PARTS = {
     "examples": (
+        "test_scripts.py",
         "test_files.py",
+        "test_tour.py",
         "test_random_events.py",
         "test_file_events.py",
-        ["bash", "-o", "pipefail", "-c", "'{program}' < examples/friday.txt | cmp - crates/event_reporter/stdout"],
         module("models.answers", "--check"),
-        module("clients.run_examples", PROGRAM, "examples/transcripts"),
-        module("clients.run_tour", PROGRAM, "README.md", "docs/GUIDE.md"),
     ),
     "csv": ("test_csv.py", "test_random_lists.py", "test_completions.py"),
+    "companions": (types_of_companions, tests_of_companions),
+    "prompt": (
+        "test_prompt.py",
+        "test_words.py",
+        "test_name_lists.py",
+        "test_refusals.py",
+        "test_copies.py",
+        "test_keys.py",
+        "test_prompt_faults.py",
+        module("faults.prompt_kills", PROGRAM, (10, 300), SEED),
+    ),
     "windows": ("test_windows.py", "test_typing.py"),
     "again": ("test_again.py", "test_random_changes.py"),
-    "prompt": ("test_prompt.py", module("clients.run_desk", PROGRAM, "extras/desk.py", (10, 300), SEED)),
-    "sheets": ("test_sheets.py", module("clients.run_sheets", PROGRAM, "extras/sheets.py", (12, 400), SEED),),
+    "draw": ("test_draw.py", "test_drawn_evenings.py", "test_event_check.py", "test_check_page.py"),
     "race": ("test_race.py",),
-    "companions": (bash("extras"),),
-    "http": (bash("http", LONG, "--seed", SEED),),
-    "phones": (bash("phones", LONG, "--seed", SEED),),
-    "oom": (bash("refused_memory", LONG),),
-    "crash": (bash("stops", LONG, "--seed", SEED),),
-    "corruption": (bash("damage", LONG, "--seed", SEED),),
-    "package": (bash("venue", LONG),),
+    "sheets": ("test_sheets.py", "test_sheet_pages.py", "test_layout.py"),
+    "phones": ("test_phones.py", "test_phones_served.py", module("faults.phone_kills", PROGRAM, (3, 1200), SEED)),
+    "taps": ("test_taps.py",),
+    "http": ("test_http.py", "test_http_events.py", module("faults.http_stops", PROGRAM, (60, 1000), SEED)),
+    "slow": (module("clients.slow_clients", PROGRAM),),
+    "crash": crash,
+    "oom": oom,
+    "corruption": corruption,
+    "package": package,
 }
 
 
-def line_of(step, given):
-    values = {"program": given.program, "seed": given.seed, "long": "--long" if given.long else ""}
-    words = (str(word[given.long]) if isinstance(word, tuple) else word.format(**values) for word in step)
-    return [word for word in words if word]
+# ---- how they are run
 
 
+@contextlib.contextmanager
+def compiled():
+    """The modules of the companions and of the scripts, compiled once for all that is started: nothing is left in the checkout, so each start would do it
+    anew, which takes three times as long as the rest of it.
+    """
+    with tempfile.TemporaryDirectory() as kept:
+        os.environ["PYTHONPYCACHEPREFIX"] = kept
+        subprocess.run([python(), "-m", "compileall", "-q", "extras/companions", "scripts"], cwd=TOP, check=True)
+        yield
+
+
+@functools.lru_cache(maxsize=None)
 def python():
     """A Python that has pytest, with what phones are served by if there is one: another one on the path may lack what Debian's packages have installed."""
     for modules in ("pytest, jinja2, waitress", "pytest"):
@@ -62,18 +136,50 @@ def python():
     sys.exit("scripts/test: pytest is not installed: apt-get install python3-pytest")
 
 
-def suites(names, given, rest):
+def passes(line):
+    return subprocess.run(line, cwd=TOP).returncode == 0
+
+
+def suites_pass(names, given, rest):
     line = [python(), "-B", "-m", "pytest", "-q", *names, "--program", given.program, "--seed", str(given.seed), *["--long"] * given.long, *rest]
-    return subprocess.run(line, cwd=TOP).returncode
+    return passes(line)
+
+
+def filled(line, given, room):
+    """A line with what is given, and with the libraries that it names, which are compiled for it."""
+    values = {"python": python(), "program": given.program, "seed": given.seed}
+    values.update({f"seed{at}": given.seed + at for at in range(4)})
+    for name in LIBRARIES.keys() & {word for word in line if isinstance(word, str)}:
+        values[name.strip("{}")] = library(name, room)
+    return [str(word[given.long]) if isinstance(word, tuple) else word.format(**values) for word in line]
+
+
+def library(name, room):
+    path, source = f"{room}/{name.strip('{}')}.so", f"scripts/faults/{LIBRARIES[name]}"
+    if not os.path.exists(path):
+        subprocess.run([os.environ.get("CC", "cc"), "-O1", "-shared", "-fPIC", "-o", path, source, "-ldl"], cwd=TOP, check=True)
+    return path
+
+
+def step_passes(step, given, rest, room):
+    if callable(step):
+        return step(given, rest)
+    # words for pytest choose among its cases
+    if rest:
+        return True
+    lines = [filled(line, given, room) for line in (step if isinstance(step[0], list) else [step])]
+    with concurrent.futures.ThreadPoolExecutor(len(lines)) as pool:
+        return all([*pool.map(passes, lines)])
 
 
 def run(part, given, rest):
     """Whether all of a part has passed. What comes after a failure is run all the same."""
-    names = [f"scripts/clients/{it}" for it in PARTS[part] if isinstance(it, str)]
-    statuses = [suites(names, given, rest)] if names else []
-    # words for pytest choose among its cases
-    others = [] if rest else [line_of(it, given) for it in PARTS[part] if not isinstance(it, str)]
-    return not any(statuses + [subprocess.run(line, cwd=TOP).returncode for line in others])
+    steps = [*(PARTS[part](given.long) if callable(PARTS[part]) else PARTS[part])]
+    names = [f"scripts/{step if '/' in step else f'clients/{step}'}" for step in steps if isinstance(step, str)]
+    passed = [suites_pass(names, given, rest)] if names else []
+    with tempfile.TemporaryDirectory() as room:
+        passed += [step_passes(step, given, rest, room) for step in steps if not isinstance(step, str)]
+    return all(passed)
 
 
 def main():
@@ -83,13 +189,15 @@ def main():
     words.add_argument("--seed", type=int, default=commit_time(), metavar="N", help="play the random ones of this number again; without it, the time of the commit")
     words.add_argument("--program", default=BUILT, metavar="FILE", help="the program; without it, the one that is built here")
     given, rest = words.parse_known_args()
+    print(f"seed {given.seed}", flush=True)
     unknown = [it for it in given.parts if "/" not in it and it not in PARTS]
     if unknown:
         words.error(f"{unknown[0]} is no part: {', '.join(PARTS)}")
     cases = [it for it in given.parts if "/" in it]
-    passed = [run(it, given, rest) for it in given.parts if it in PARTS]
-    if cases:
-        passed.append(suites(cases, given, rest) == 0)
+    with compiled():
+        passed = [run(it, given, rest) for it in given.parts if it in PARTS]
+        if cases:
+            passed.append(suites_pass(cases, given, rest))
     return 0 if all(passed) else 1
 
 

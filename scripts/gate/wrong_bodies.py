@@ -7,9 +7,10 @@ function are put into one copy of the crate, and one check says of each function
 judge, as a function that calls another one that is refused, is tried again without these beside it, and at last alone.
 
 An answer of the function may merely no longer fit the changed body, and no goal of the contract stay open beside it. Such a wrong body is tried once
-more without the function's answers. That verdict counts only if the function as it is in the source is proved without them too. If it isn't, it would be
-refused whatever its body does, so the wrong body is `unclear`. A line `unclear:` in the edit names a goal that the check left open, and where
-somebody who read it found it to be false; with `--strict` one without such a line fails the run. The invariants stay, since no loop is proved without them.
+more without the answers that don't fit, and if others don't fit then, without any. Beside it the function as it is in the source is tried without the
+same answers. The wrong body is refused if a clause stays open that is proved of the function as it is. If there is no such clause, it would be refused
+whatever its body does, so the wrong body is `unclear`. A line `unclear:` in the edit names a goal that the check left open, and where somebody who read
+it found it to be false; with `--strict` one without such a line fails the run. The invariants stay, since no loop is proved without them.
 
 The edits of crates/NAME/controls change nothing that a function means: a space more, a `match` in place of an `if`, another name for a local. None of
 them may be refused, or what this says of wrong bodies is worth nothing. One of each crate is tried each time, all where no turn is given.
@@ -23,12 +24,14 @@ that are tried each time, and of functions without their answers, is kept, as `r
 reads.
 """
 import argparse
+import bisect
 import collections
 import concurrent.futures
 import contextlib
 import dataclasses
 import glob
 import hashlib
+import itertools
 import json
 import os
 import re
@@ -84,10 +87,12 @@ class WrongBody:
     by_hand: str = ""
     # it changes nothing that the functions mean
     is_control: bool = False
+    # the answers that it is tried without, each by its file and its goal
+    without: frozenset = frozenset()
 
     @property
     def key(self):
-        return self.name, self.pairs, sorted(self.functions), self.by_hand, self.is_control
+        return self.name, self.pairs, sorted(self.functions), self.by_hand, self.is_control, *[sorted(self.without)] * bool(self.without)
 
     def is_settled(self, said):
         """Whether what a check beside others said of it counts. That a wrong body passes is said alone."""
@@ -102,6 +107,17 @@ class WrongBody:
                 return None
             made[file] = text.replace(old, new)
         return made
+
+
+@dataclasses.dataclass
+class Said:
+    """What a check said of a wrong body."""
+
+    verdict: str
+    # the goals of its functions that stayed open, each after the function's path
+    goals: set = dataclasses.field(default_factory=set)
+    # the answers of its functions that don't fit it, each by its file and its goal
+    unfit: set = dataclasses.field(default_factory=set)
 
 
 def module_of(file):
@@ -250,11 +266,48 @@ def answers_of(folder, function):
     return [it for it in glob.glob(f"{folder}/proofs/**/Answers.antt", recursive=True) if path.fullmatch(it)]
 
 
-def answered_in(crate, texts, function):
-    """The goals of a function that its own answers are about."""
-    files = [os.path.relpath(it, crate.folder) for it in answers_of(crate.folder, function)]
-    read = [texts.get(it) or open(f"{crate.folder}/{it}", encoding="utf-8").read() for it in files]
-    return {it for text in read for it in re.findall(r"goal\.(returns[^\s()]*)", text)}
+def pieces(text):
+    """The definitions of a file of answers, and what stands before them."""
+    return re.split(r"\n\n(?=\S)", text)
+
+
+def goal_of(piece):
+    """The goal that a definition answers, or None."""
+    found = re.match(r"(?:--.*\n)*pub (\S+) :\s+goal\.(\S+)", piece)
+    return found and found[1]
+
+
+def all_answers(crate, body):
+    """The answers of the functions that a wrong body changes, each by its file and its goal."""
+    files = {it for function in body.functions for it in answers_of(crate.folder, function)}
+    named = ((os.path.relpath(it, crate.folder), goal_of(piece)) for it in files for piece in pieces(open(it, encoding="utf-8").read()))
+    return frozenset((file, goal) for file, goal in named if goal)
+
+
+def answered_in(crate, function, without):
+    """The goals of a function that its own answers are about, but for those that are left out."""
+    found = set()
+    for it in answers_of(crate.folder, function):
+        file = os.path.relpath(it, crate.folder)
+        read = [piece for piece in pieces(open(it, encoding="utf-8").read()) if (file, goal_of(piece)) not in without]
+        found |= {goal for piece in read for goal in re.findall(r"goal\.(returns[^\s()]*)", piece)}
+    return found
+
+
+def unfit_in(crate, body, output):
+    """The answers of a wrong body that the check refused: all of them if what it refused is none, as a lemma that they share."""
+    found, left = set(), all_answers(crate, body) - body.without
+    files = {os.path.relpath(it, crate.folder): it for function in body.functions for it in answers_of(crate.folder, function)}
+    for file, line in re.findall(r"^(?:\./)?(proofs/\S+/Answers\.antt):(\d+):\d+: error: ", output, re.M):
+        if file in files:
+            kept = [it for it in pieces(open(files[file], encoding="utf-8").read()) if (file, goal_of(it)) not in body.without]
+            ends = [*itertools.accumulate(it.count("\n") + 2 for it in kept)]
+            at = bisect.bisect_left(ends, int(line))
+            goal = goal_of(kept[at]) if at < len(kept) else None
+            if goal is None:
+                return left
+            found.add((file, goal))
+    return found
 
 
 def pattern_of(function):
@@ -268,18 +321,32 @@ def lost_goals(output, function):
     return re.search(rf"^(?:\./)?{pattern_of(function)}/Answers\.antt:\d+:\d+: error: .*\.Goals` has no `", output, re.M)
 
 
-def left_open(crate, texts, output, bare):
-    """The functions of which a goal stayed open that no answer of theirs is about: none is about its clause, or each goal that they are about is there
-    beside it. With it a clause is refused, whatever other names their answers lost. Those of `bare` have no answers."""
-    found = set()
+def open_goals(crate, texts, output):
+    """The goals that stayed open, each after its function."""
     for file, line, goal in OPEN_GOAL.findall(output):
         text = texts.get(file) or open(f"{crate.folder}/{file}", encoding="utf-8").read()
-        function = function_at(crate, text, sum(len(it) for it in text.splitlines(True)[: int(line)]), file)
-        if function and goal.startswith("returns"):
-            answered = set() if function in bare else answered_in(crate, texts, function)
-            is_beside = goal not in answered and not lost_goals(output, function)
-            if is_beside or not {clause_of(it) for it in answered} & {"", clause_of(goal)}:
-                found.add(function)
+        at = sum(len(it) for it in text.splitlines(True)[: int(line) - 1])
+        # a function with an attribute begins there, before its head
+        ahead = HEAD.search(text, at) if re.match(" *#", text[at:]) else None
+        function = function_at(crate, text, ahead.end() if ahead else text.find("\n", at), file)
+        if function:
+            yield function, goal
+
+
+def of_contract(goals):
+    """Those of these goals that are of a function's contract."""
+    return [(function, goal) for function, goal in goals if goal.startswith("returns")]
+
+
+def left_open(crate, goals, output, without):
+    """The functions of which a goal stayed open that no answer of theirs is about: none is about its clause, or each goal that they are about is there
+    beside it. With it a clause is refused, whatever other names their answers lost."""
+    found = set()
+    for function, goal in of_contract(goals):
+        answered = answered_in(crate, function, without)
+        is_beside = goal not in answered and not lost_goals(output, function)
+        if is_beside or not {clause_of(it) for it in answered} & {"", clause_of(goal)}:
+            found.add(function)
     return found
 
 
@@ -349,8 +416,20 @@ def fact_of(crate):
     return found[1] if found else None
 
 
-def checked(crate, texts, holes, bare, flags, kept):
-    """What a check says of a copy of the crate with these texts, a hole for each of these functions, and no answers of those of `bare`."""
+def leave_out(room, without):
+    """Takes these answers out of a copy of the crate."""
+    for file in {file for file, _goal in without}:
+        with open(f"{room}/{file}", encoding="utf-8") as it:
+            kept = [piece for piece in pieces(it.read()) if (file, goal_of(piece)) not in without]
+        if any(map(goal_of, kept)):
+            with open(f"{room}/{file}", "w", encoding="utf-8") as it:
+                it.write("\n\n".join(kept).rstrip("\n") + "\n")
+        else:
+            os.remove(f"{room}/{file}")
+
+
+def checked(crate, texts, holes, without, flags, kept):
+    """What a check says of a copy of the crate with these texts, a hole for each of these functions, and without these answers."""
     with tempfile.TemporaryDirectory(prefix="rt-edit-") as room:
         for part in ("src", "specs", "proofs"):
             if os.path.isdir(f"{crate.folder}/{part}"):
@@ -360,8 +439,7 @@ def checked(crate, texts, holes, bare, flags, kept):
                 it.write(text)
         for function in holes:
             leave_hole(crate, room, function, fact_of(crate) if function == min(holes) else None)
-        for file in (it for function in bare for it in answers_of(room, function)):
-            os.remove(file)
+        leave_out(room, without)
         flags = ["--jobs", "1", *flags, *(["--allow-holes"] if holes else [])]
         words = [rt.rtlib.RATTLE, "check", *crate.words(flags, keeps=False), "--incremental", kept]
         how = {"cwd": room, "stdin": subprocess.DEVNULL, "stdout": subprocess.PIPE, "stderr": subprocess.STDOUT, "errors": "replace"}
@@ -372,21 +450,25 @@ def checked(crate, texts, holes, bare, flags, kept):
         return ran.stdout
 
 
-def tried(crate, bodies, kept, has_holes=True, has_answers=True):
+def tried(crate, bodies, kept, has_holes=True):
     """Tries these in one check, and returns what it said of each."""
     taken, texts = together(crate, bodies)
     touched = {it for body in taken for it in body.functions}
+    without = {it for body in taken for it in body.without}
     holes = functions_of(crate) - touched if has_holes else set()
-    bare = set() if has_answers else touched
-    output = checked(crate, texts, holes, bare, only(taken, holes), kept)
+    output = checked(crate, texts, holes, without, only(taken, holes), kept)
     if re.search(NOT_READ, output) or not re.search(r"^(logic|only|holes)=", output, re.M):
-        said = {it.name: UNCLEAR for it in taken}
+        said = {it.name: Said(UNCLEAR) for it in taken}
         if len(taken) == 1 and not has_holes:
-            said = {taken[0].name: UNREAD}
+            said = {taken[0].name: Said(UNREAD)}
     else:
         constants = sum(EXAMPLES in it.functions for it in taken)
-        open_in = left_open(crate, texts, output, bare)
-        said = {it.name: verdict(crate, it, output, constants, open_in) for it in taken}
+        goals = {*open_goals(crate, texts, output)}
+        open_in = left_open(crate, goals, output, without)
+        said = {}
+        for it in taken:
+            of_its = {(function, goal) for function, goal in goals if function in it.functions}
+            said[it.name] = Said(verdict(crate, it, output, constants, open_in), of_its, unfit_in(crate, it, output))
     return said, output
 
 
@@ -399,16 +481,18 @@ def in_time(bodies):
     return bodies if time.monotonic() < deadline else [it for it in bodies if it.is_always]
 
 
-def judged(crate, bodies, kept, shows, has_answers=True):
-    """What was found of each of these wrong bodies of a crate, by name, but of those for which there was no time."""
+def judged(crate, bodies, kept, shows, tell=lambda body, said: None):
+    """What was said of each of these wrong bodies of a crate, by name, but of those for which there was no time. Each is told once it is known."""
     found, alone = {}, []
     left, again = in_time(bodies), []
     while left:
-        said, output = tried(crate, left, kept, has_answers=has_answers)
+        said, output = tried(crate, left, kept)
         if shows:
             print(output)
-        refused = any(it in REFUSED for it in said.values())
-        found.update((it.name, said[it.name]) for it in left if it.is_settled(said.get(it.name)))
+        refused = any(it.verdict in REFUSED for it in said.values())
+        for it in (it for it in left if it.name in said and it.is_settled(said[it.name].verdict)):
+            found[it.name] = said[it.name]
+            tell(it, said[it.name])
         unclear = [it for it in left if it.name in said and it.name not in found]
         left = in_time([it for it in left if it.name not in said])
         # those may have waited for others that were refused
@@ -419,16 +503,13 @@ def judged(crate, bodies, kept, shows, has_answers=True):
     # what was not refused so is tried alone, over the proofs of the whole crate
     for body in alone:
         if in_time([body]):
-            said, output = tried(crate, [body], kept, has_holes=False, has_answers=has_answers)
+            said, output = tried(crate, [body], kept, has_holes=False)
             if shows:
                 print(output)
+            for it in said.values():
+                tell(body, it)
             found.update(said)
     return found
-
-
-def is_answered(crate, body):
-    """Whether a function that the wrong body changes has answers."""
-    return any(answers_of(crate.folder, it) for it in body.functions)
 
 
 def sum_of(crate, body, *more):
@@ -477,42 +558,81 @@ class Verdicts:
             it.write(json.dumps(row) + "\n")
 
 
-def said_without_answers(crate, bodies, kept, shows, earlier):
-    """What is said of each function that these change, as it is and without its answers, by its path."""
-    always = {it: any(it in body.functions and body.is_always for body in bodies) for body in bodies for it in body.functions}
-    as_they_are = [WrongBody(function, [], {function}, is_always, is_control=True) for function, is_always in sorted(always.items())]
-    found = {it.name: earlier.said(crate, it) for it in as_they_are} if earlier else {}
-    new = [it for it in as_they_are if not found.get(it.name)]
-    said = judged(crate, new, kept, shows, has_answers=False)
+def as_it_is(body):
+    """The functions that a wrong body changes as they are in the source, without the answers that it is tried without."""
+    name = " ".join([*sorted(body.functions), *sorted(f"-{goal}" for _file, goal in body.without)])
+    return WrongBody(name, [], body.functions, body.is_always, is_control=True, without=body.without)
+
+
+def open_as_they_are(crate, bodies, kept, shows, earlier):
+    """The goals that stay open of the functions of each of these as they are in the source, by the name of the wrong body: None if that is not known."""
+    controls = {body.name: as_it_is(body) for body in bodies}
+    # one that is tried each time stands for all that are the same
+    each = {it.name: it for it in sorted(controls.values(), key=lambda it: it.is_always)}
+    found = {name: earlier.said(crate, it) for name, it in each.items()} if earlier else {}
+    found = {name: {*map(tuple, json.loads(it))} for name, it in found.items() if it}
+    said = judged(crate, [it for name, it in each.items() if name not in found], kept, shows)
+    found.update((name, it.goals if it.goals or it.verdict == PASSED else None) for name, it in said.items())
     if earlier:
-        earlier.add(crate, [it for it in new if it.name in said], said)
-    return {**found, **said}
+        known = [each[name] for name in said if found[name] is not None]
+        earlier.add(crate, known, {it.name: json.dumps(sorted(found[it.name])) for it in known})
+    return {name: found[it.name] for name, it in controls.items() if it.name in found}
 
 
-def try_all(crate, bodies, shows, earlier=None, verdicts=None):
-    """What was found of each of these wrong bodies and controls of a crate, by name. Those of which an earlier run said it are not tried."""
+def is_refused(said, as_they_are):
+    """Whether a wrong body is refused without some of its answers, where these goals stay open of the functions as they are: at a clause of which none is
+    open there. An open goal that names no clause is of all of them. One whose answer is there and doesn't fit says nothing."""
+    unfit = {goal for _file, goal in said.unfit}
+    told = [(function, goal) for function, goal in said.goals if goal not in unfit]
+    here, there = ({(function, clause_of(goal)) for function, goal in of_contract(goals)} for goals in (told, as_they_are))
+    all_of = {function for function, clause in there if not clause}
+    some_of = {function for function, _clause in there}
+    is_beyond = any(function not in (all_of if clause else some_of) and (function, clause) not in there for function, clause in here)
+    return is_beyond or not as_they_are and said.verdict == "refused"
+
+
+def again_without(crate, lost, kept, shows, earlier):
+    """What is said of each of these, by name, without the answers that they are to be tried without, and the goals that stay open of the functions as they
+    are."""
+    as_they_are = open_as_they_are(crate, lost, kept, shows, earlier)
+    found = {name: (Said(UNCLEAR), goals) for name, goals in as_they_are.items() if goals is None}
+    said = judged(crate, [it for it in lost if it.name in as_they_are and it.name not in found], kept, shows)
+    for name, it in said.items():
+        it.verdict = PASSED if it.verdict == PASSED else "refused" if is_refused(it, as_they_are[name]) else UNCLEAR
+        found[name] = it, as_they_are[name]
+    return found
+
+
+def try_all(crate, bodies, shows, earlier=None, verdicts=None, work_in=None):
+    """What was found of each of these wrong bodies and controls of a crate, by name. Those of which an earlier run said it are not tried. What checks
+    have proved is kept in a folder of the crate's in `work_in`, and without that only until the end."""
     found = {it.name: earlier.said(crate, it) for it in bodies if earlier and it.is_always}
     found.update({it.name: verdicts.said(crate, it) for it in bodies if verdicts and not found.get(it.name)})
     found = {name: what for name, what in found.items() if what}
     known, new = len(found), [it for it in bodies if it.name not in found]
-    with tempfile.TemporaryDirectory(prefix="wrong-bodies-") as kept:
-        first = judged(crate, new, kept, shows)
-        lost = [it for it in new if first.get(it.name) in (BY_TEXT, UNCLEAR) and is_answered(crate, it)]
-        without = said_without_answers(crate, lost, kept, shows, earlier)
-        are_proved = [it for it in lost if all(without.get(function) == PASSED for function in it.functions)]
-        second = judged(crate, are_proved, kept, shows, has_answers=False)
-    for it in (it for it in new if it.name in first):
-        if it in are_proved:
-            what = second.get(it.name)
-        elif it in lost:
-            what = UNCLEAR if all(without.get(function) for function in it.functions) else None
-        else:
-            what = first[it.name]
-        if what:
-            found[it.name] = counted(it, what)
-            if verdicts:
-                as_it_is = sorted(without[function] for function in it.functions) if it in lost else []
-                verdicts.add(crate, it, first=first[it.name], unchanged=as_it_is, second=second.get(it.name), verdict=found[it.name])
+
+    def is_lost(it, said):
+        return said.verdict in (BY_TEXT, UNCLEAR) and all_answers(crate, it)
+
+    def add(it, first, said, as_they_are=None):
+        found[it.name] = counted(it, said.verdict)
+        if verdicts:
+            unfit = sorted(goal for _file, goal in first.unfit)
+            open_in = {"open": sorted(said.goals), "open_as_it_is": None if as_they_are is None else sorted(as_they_are)}
+            verdicts.add(crate, it, first=first.verdict, unfit=unfit, **open_in, verdict=found[it.name])
+
+    with contextlib.nullcontext(f"{work_in}/{crate.name}") if work_in else tempfile.TemporaryDirectory(prefix="wrong-bodies-") as kept:
+        os.makedirs(kept, exist_ok=True)
+        first = judged(crate, new, kept, shows, lambda it, said: is_lost(it, said) or add(it, said, said))
+        lost = [it for it in new if it.name in first and is_lost(it, first[it.name])]
+        less = [dataclasses.replace(it, without=frozenset(first[it.name].unfit or all_answers(crate, it))) for it in lost]
+        again = again_without(crate, less, kept, shows, earlier)
+        # others may not fit then, and what is left may prove less than nothing does; one that was judged by hand isn't tried so
+        unclear = [it for it in less if it.name in again and again[it.name][0].verdict == UNCLEAR and it.without != all_answers(crate, it)]
+        bare = [it for it in unclear if again[it.name][0].unfit or not (it.by_hand or it.is_control)]
+        again.update(again_without(crate, [dataclasses.replace(it, without=all_answers(crate, it)) for it in bare], kept, shows, earlier))
+    for it in (it for it in lost if it.name in again):
+        add(it, first[it.name], *again[it.name])
     if earlier:
         earlier.add(crate, [it for it in new if it.is_always and found.get(it.name) in ("refused", BY_HAND, HELD)], found)
     found.update({it.name: NOT_TRIED for it in bodies if it.name not in found})
@@ -589,7 +709,7 @@ def give_way(niceness):
         it.write(str(niceness))
 
 
-def try_beside(gate, work, shows, earlier):
+def try_beside(gate, work, shows, earlier, verdicts):
     """Tries those of a crate once the gate has proved it: with half of the processors until the gate has ended, and then with all."""
     give_way(10)
     found, left, running = [], [*work], set()
@@ -606,7 +726,7 @@ def try_beside(gate, work, shows, earlier):
                 places = 0 if running else 1
             for it in ready[:places]:
                 left.remove(it)
-                running.add(pool.submit(try_all, *it, shows, earlier))
+                running.add(pool.submit(try_all, *it, shows, earlier, verdicts))
             ended, running = concurrent.futures.wait(running, timeout=5, return_when=concurrent.futures.FIRST_COMPLETED)
             found += [it.result() for it in ended]
             if not running and not ready:
@@ -614,12 +734,12 @@ def try_beside(gate, work, shows, earlier):
     return found
 
 
-def try_now(work, shows, jobs, verdicts):
+def try_now(work, shows, jobs, verdicts, work_in):
     """Tries all, so many crates at once, over the libraries below as the session builds them."""
     if any(it.build_rlib(["--jobs", "1"], anew=False) for crate, bodies in work if bodies for it in crate.below()):
         sys.exit("a library below could not be built")
     with concurrent.futures.ThreadPoolExecutor(jobs) as pool:
-        return list(pool.map(lambda it: try_all(*it, shows, verdicts=verdicts), work))
+        return list(pool.map(lambda it: try_all(*it, shows, verdicts=verdicts, work_in=work_in), work))
 
 
 def main():
@@ -633,6 +753,7 @@ def main():
     words.add_argument("--strict", action="store_true", help="fail if one is unclear and was not judged by hand")
     words.add_argument("--jobs", metavar="NUMBER", type=int, default=rt.processors(), help="try those of so many crates at once; without it, as many as there are processors")
     words.add_argument("--verdicts", metavar="FILE", help="add a line of JSON for each that was tried to FILE, and leave out those of which it has one")
+    words.add_argument("--work-in", metavar="FOLDER", help="keep what checks have proved there, and use it, so that a run that is stopped goes on quickly")
     given = words.parse_args()
     if given.minutes:
         global deadline
@@ -647,11 +768,12 @@ def main():
                 bodies, controls = of_turn(crate, bodies, given.turn), controls[given.turn % max(len(controls), 1) :][:1]
             work.append((crate, [it for it in bodies + controls if not given.only or it.name in given.only]))
     work.sort(key=lambda it: -it[0].count(rb"\n"))
+    verdicts = Verdicts(given.verdicts) if given.verdicts else None
     if given.beside_gate:
         with tempfile.TemporaryDirectory(prefix="gate-libraries-") as room:
-            found = try_beside(Gate(given.beside_gate, room), work, given.show, Earlier(crates))
+            found = try_beside(Gate(given.beside_gate, room), work, given.show, Earlier(crates), verdicts)
     else:
-        found = try_now(work, given.show, given.jobs, Verdicts(given.verdicts) if given.verdicts else None)
+        found = try_now(work, given.show, given.jobs, verdicts, given.work_in)
     print(f"wrong bodies: {told(found)}")
     all_said = {it for said in found for it in said.values()}
     return 1 if all_said & {PASSED, UNREAD, MISJUDGED, *[UNCLEAR] * given.strict} or not all_said & {"refused", BY_HAND, HELD} else 0
