@@ -3,11 +3,13 @@
 A check is an `assert` that was reached. Those that hold are counted by pytest's own hook, so that a test of twenty steps counts twenty; a test that
 asserts nothing fails. What is missing on this machine is left out by `@pytest.mark.needs`, and the end says so in a line that begins `left out: `.
 """
+import errno
 import importlib.util
 import os
 import random
 import shutil
 import signal
+import stat
 import tempfile
 
 import pytest
@@ -16,10 +18,12 @@ from scripts import TOP, commit_time
 from scripts.clients.program import Program
 from scripts.clients.random_evenings import laid
 from scripts.clients.serving import Serving
+from scripts.clients.sheets import BROWSERS, Sheets
+from scripts.clients.waiting import comes
 from scripts.models.plain_event import Event
 
 # helpers in which an `assert` is a check too
-pytest.register_assert_rewrite("scripts.clients.prompt")
+pytest.register_assert_rewrite("scripts.clients.prompt", "scripts.clients.phone_rooms")
 
 held, replays = pytest.StashKey[int](), pytest.StashKey[list]()
 
@@ -84,10 +88,12 @@ def pytest_runtest_setup(item):
 
 
 def missing(module=None, command=None, package=None, root=False):
+    """Why a test is left out, or None. Of several commands one is enough."""
     if module and importlib.util.find_spec(module) is None:
         return f"{package or module} is not installed"
-    if command and shutil.which(command) is None:
-        return f"{package or command} is not installed"
+    commands = (command,) if isinstance(command, str) else command
+    if commands and not any(map(shutil.which, commands)):
+        return f"{package or commands[0]} is not installed"
     return "this user can't become another one" if root and os.geteuid() else None
 
 
@@ -123,8 +129,20 @@ def program(request):
 @pytest.fixture
 def room():
     """An empty folder. It is no `tmp_path`: those lie below a folder that other users can't go through, and three runs of them are kept."""
-    with tempfile.TemporaryDirectory() as folder:
-        yield folder
+    folder = tempfile.TemporaryDirectory()
+    yield folder.name
+    assert comes(lambda: is_removed(folder))
+
+
+def is_removed(folder):
+    """Whether a folder is removed now: what a program that was killed had begun may still write there."""
+    try:
+        folder.cleanup()
+    except OSError as fault:
+        if fault.errno != errno.ENOTEMPTY:
+            raise
+        return False
+    return True
 
 
 @pytest.fixture(scope="session")
@@ -139,22 +157,48 @@ def prompt(program, extras):
     # not at the head: it has to be imported once its checks are counted
     from scripts.clients.prompt import Prompt
 
-    with Prompt(program.path, f"{extras}/desk.py") as it:
+    with Prompt(program.path, f"{extras}/event-desk") as it:
         yield it
+
+
+@pytest.fixture
+def sheets(program, extras, room):
+    """The sheets and the board of events in the room."""
+    return Sheets(program.path, extras, room)
+
+
+@pytest.fixture(scope="session")
+def browser():
+    """A browser's command, where a test needs one."""
+    return next(filter(None, map(shutil.which, BROWSERS)), None)
 
 
 @pytest.fixture
 def started(program, room):
     """An event that has begun, and its file."""
 
-    def start(*names, rounds=3, cut=0):
+    def start(*names, rounds=3, cut=0, called="e"):
         event = Event(rounds, cut)
         for name in names:
             event.enrol(name)
         event.start()
-        return event, laid(program.path, f"{room}/e.event", event, "E")
+        return event, laid(program.path, f"{room}/{called}.event", event, "E")
 
     return start
+
+
+@pytest.fixture
+def stand_in(program, room):
+    """A program in the place of the built one: a script for sh, which calls that as $REAL."""
+
+    def make(text):
+        path = f"{room}/stand-in"
+        with open(path, "w") as it:
+            it.write(f"#!/bin/sh\nREAL={program.path}\n{text}\n")
+        os.chmod(path, stat.S_IRWXU)
+        return path
+
+    return make
 
 
 @pytest.fixture

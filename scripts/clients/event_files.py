@@ -5,17 +5,10 @@ import sqlite3
 import subprocess
 import tempfile
 
+from scripts.clients.waiting import PATIENCE
 from scripts.models.plain_event import Event
 from scripts.models.plain_file import PLAYERS, tables_of
-
-# the tables of version 1, in the order in which they were made
-OLD_TABLES = (
-    "CREATE TABLE event(id INTEGER PRIMARY KEY CHECK(id = 1), version INTEGER NOT NULL, serial INTEGER NOT NULL, name TEXT NOT NULL, rounds INTEGER NOT NULL, cut INTEGER NOT NULL, phase INTEGER NOT NULL)",
-    "CREATE TABLE player(no INTEGER PRIMARY KEY, name TEXT NOT NULL UNIQUE, dropped INTEGER NOT NULL)",
-    "CREATE TABLE pairing(round INTEGER NOT NULL, tab INTEGER NOT NULL, lo INTEGER NOT NULL, hi INTEGER NOT NULL, swapped INTEGER NOT NULL, done INTEGER NOT NULL, x INTEGER NOT NULL, y INTEGER NOT NULL, d INTEGER NOT NULL, PRIMARY KEY(round, tab), UNIQUE(lo, hi), CHECK(lo < hi))",
-    "CREATE TABLE bracket(stage INTEGER NOT NULL, slot INTEGER NOT NULL, a INTEGER NOT NULL, b INTEGER NOT NULL, done INTEGER NOT NULL, x INTEGER NOT NULL, y INTEGER NOT NULL, d INTEGER NOT NULL, PRIMARY KEY(stage, slot))",
-    "CREATE TABLE tally(no INTEGER PRIMARY KEY, points INTEGER NOT NULL, rounds INTEGER NOT NULL, gamepoints INTEGER NOT NULL, games INTEGER NOT NULL)",
-)
+from scripts.models.schema import TABLES
 
 STATUSES = {24: 4, 25: 3, 26: 3}
 
@@ -34,8 +27,17 @@ def due(answer):
     return STATUSES.get(int(answer[0].split()[1]), 1), b"", text
 
 
+def by_sqlite(file, *statements):
+    """The file, after these statements of SQL."""
+    base = sqlite3.connect(file, isolation_level=None)
+    for statement in statements:
+        base.execute(statement).fetchall()
+    base.close()
+    return file
+
+
 def run(program, words, **how):
-    ran = subprocess.run([program, *words], stdin=subprocess.DEVNULL, capture_output=True, timeout=60, **how)
+    ran = subprocess.run([program, *words], stdin=subprocess.DEVNULL, capture_output=True, timeout=PATIENCE, **how)
     return ran.returncode, ran.stdout, ran.stderr
 
 
@@ -53,7 +55,7 @@ def make_old(file, event, others=((), ()), name="E", has_log=False):
     base = sqlite3.connect(file, isolation_level=None)
     base.execute("PRAGMA journal_mode = WAL").fetchall()
     base.execute("BEGIN")
-    for statement in (*others[0], *OLD_TABLES, *others[1]):
+    for statement in (*others[0], *TABLES[1], *others[1]):
         base.execute(statement)
     for table, rows in zip(tables_of(1), rows_of(event, name)):
         for row in rows:

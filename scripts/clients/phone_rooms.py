@@ -1,4 +1,4 @@
-"""Events whose scores come from phones: `extras/phones.py` as it serves, its pages asked as functions, and what phones send."""
+"""Events whose scores come from phones: `extras/event-phones` as it serves, and what phones send. An `assert` here is a check."""
 import contextlib
 import csv
 import http.client
@@ -16,15 +16,19 @@ import time
 from scripts import TOP
 from scripts.clients.event_files import run
 from scripts.clients.serving import free_port
-from scripts.clients.tally import check
+from scripts.clients.waiting import PATIENCE
 
 sys.path.insert(0, f"{TOP}/extras")
 
-from companions.phones.codes import kept_secret
+from companions.codes import keep_secret, kept_secret, secret_for
+from companions.lists import players_of, rounds_of
+from companions.reports import TIME, Report, Reports
+from companions.score import Score
 
-PHONES, DESK, SHEETS = (f"{TOP}/extras/{name}.py" for name in ("phones", "desk", "sheets"))
+PHONES = f"{TOP}/extras/event-phones"
+# on the slips of an event that nobody serves
+AT = "http://192.168.1.10:8080"
 PYTHON = sys.executable, "-B"
-PATIENCE = 30
 SCORES = ["2-0-0", "2-1-0", "0-2-0", "1-2-0", "1-1-0", "1-1-1", "0-0-3"]
 FORM = "application/x-www-form-urlencoded"
 
@@ -36,7 +40,7 @@ def made(program, file, players=8, rounds=3, cut=0, results=()):
         it.writelines(f"{name}\n" for name in ["name", *(f"Player {number:03} of the House" for number in range(1, players + 1))])
     lines = [["init", file, "Friday", str(rounds), str(cut)], ["import", file, names], ["start", file], ["pair", file, "1", "0" * 64]]
     for words in [*lines, *(["result", file, "1", *map(str, it)] for it in results)]:
-        check(f"{os.path.basename(file)}: {words[0]}", run(program, words)[0], 0)
+        assert run(program, words)[0] == 0, f"{os.path.basename(file)}: {words[0]}"
     return file
 
 
@@ -47,7 +51,7 @@ def asked(program, words):
         if errors != b"refused 25 Store\n":
             break
         time.sleep(0.05)
-    check(f"{words[0]} answers", (status, errors), (0, b""))
+    assert (status, errors) == (0, b""), f"{words[0]} answers"
     return text.decode()
 
 
@@ -59,22 +63,31 @@ def results(program, file):
 
 def targets(program, file, seat=0):
     """What is scanned at each table of the newest round."""
-    from companions.lists import rounds_of
-
     rounds = rounds_of(asked(program, ["export", file, "results"]))
     secret = kept_secret(file)
     return {match.place: secret.target(len(rounds), match, seat) for match in rounds[-1] if not match.is_bye}
 
 
-def at_the_prompt(program, file, *lines, status=None):
-    """What the prompt says to these lines."""
-    text = "".join(f"{it}\n" for it in lines)
-    words = [*PYTHON, DESK, file, "--program", program]
-    ran = subprocess.run(words, input=text, capture_output=True, text=True, encoding="utf-8", timeout=120)
-    check(f"the prompt, errors of {lines}", ran.stderr, "")
-    if status is not None:
-        check(f"the prompt, the status of {lines}", ran.returncode, status)
-    return ran.stdout
+def links(program, file):
+    """The own page of each player."""
+    secret = kept_secret(file)
+    return {number: secret.link(player) for number, player in players_of(asked(program, ["export", file, "players"])).items()}
+
+
+def slips_for(file, asks_both=None):
+    """The secret of the codes, made if there is none."""
+    secret = secret_for(file, AT, asks_both)
+    keep_secret(file, secret)
+    return secret
+
+
+def report_to(program, file, table, score, outcome, stored, drops=(), seat=0, number=1):
+    """A line in FILE.reports, as event-phones writes it."""
+    match = next(it for it in rounds_of(asked(program, ["export", file, "results"]))[number - 1] if it.place == table)
+    seats = number, table, match.first, match.second
+    said, stored = Score.parse(score), Score.parse(stored) if stored else None
+    Reports(file).add(Report(time.strftime(TIME), *seats, said, outcome, stored, "10.0.0.7", tuple(drops), seat))
+    return match
 
 
 def copied_event(source, target):
@@ -83,7 +96,7 @@ def copied_event(source, target):
 
 
 class Gateway:
-    """`phones.py` as a process of its own, from the line with its address on."""
+    """`event-phones` as a process of its own, from the line with its address on."""
 
     def __init__(self, program, file, *words, **how):
         self.port, self.desk_port, self.file = free_port(), free_port(), file
@@ -93,7 +106,7 @@ class Gateway:
         said = self.process.stdout.readline() if is_there else b""
         if not said.startswith(b"Phones: "):
             self.process.kill()
-            check("phones.py serves", (said, self.process.communicate()[1].decode()[-500:]), "Phones: ")
+            raise OSError(f"event-phones does not serve: {said!r}, {self.process.communicate()[1].decode()[-500:]}")
 
     def __enter__(self):
         return self
@@ -191,17 +204,6 @@ def children_of(process):
             with contextlib.suppress(OSError), open(f"/proc/{process}/task/{thread}/children") as it:
                 found += map(int, it.read().split())
     return found
-
-
-def wait_for(name, is_so, seconds=PATIENCE):
-    until = time.monotonic() + seconds
-    while not is_so():
-        if time.monotonic() > until:
-            check(name, "it did not come", "it comes")
-            return False
-        time.sleep(0.02)
-    check(name, True, True)
-    return True
 
 
 def spread(seconds):

@@ -3,6 +3,20 @@ import resource
 import signal
 import subprocess
 
+from scripts.clients.waiting import PATIENCE
+
+
+# what `stand_in` makes of this is killed before a command, if there is FILE.before, or after it, if there is FILE.behind. The prompt asks with `drop 0` and
+# with an empty name in which phase the event is: these are answered.
+LOSSY = """
+case "$1 $3" in "drop 0" | "enrol ") exec "$REAL" "$@";; esac
+case $1 in result | correct | pair | drop | cut | playoff | start | enrol)
+    if [ -e "$2.before" ]; then rm "$2.before"; kill -9 $$; fi
+    if [ -e "$2.behind" ]; then rm "$2.behind"; "$REAL" "$@" > "$2.out" 2>&1; kill -9 $$; fi
+esac
+exec "$REAL" "$@"
+"""
+
 
 class Program:
     def __init__(self, path):
@@ -11,12 +25,12 @@ class Program:
     def run(self, *words, **how):
         """The status, the output and the errors of a command line."""
         how.setdefault("stdin", subprocess.DEVNULL)
-        ran = subprocess.run([how.pop("path", self.path), *words], capture_output=True, timeout=60, **how)
+        ran = subprocess.run([how.pop("path", self.path), *words], capture_output=True, timeout=PATIENCE, **how)
         return ran.returncode, ran.stdout, ran.stderr
 
     def fed(self, data, *words):
         """The same where it reads these bytes: as a script, if there are no words."""
-        ran = subprocess.run([self.path, *words], input=data, capture_output=True, timeout=60)
+        ran = subprocess.run([self.path, *words], input=data, capture_output=True, timeout=PATIENCE)
         return ran.returncode, ran.stdout, ran.stderr
 
     def did(self, *words):

@@ -1,4 +1,4 @@
-"""The scorekeeper's prompt, `extras/desk.py`, over the program as it is built: by a pipe, and in a terminal of its own; what is said, beside the plain
+"""The scorekeeper's prompt, `extras/event-desk`, over the program as it is built: by a pipe, and in a terminal of its own; what is said, beside the plain
 reading of the rules; and a whole evening. An `assert` here is a check.
 """
 import contextlib
@@ -13,13 +13,22 @@ import sys
 import time
 
 from scripts.clients.event_files import rows_alone, rows_of
+from scripts.clients.waiting import PATIENCE
 from scripts.models.plain_event import ENROLLING, FINISHED, PLAYOFF, SWISS, Event
 
 # before the first round, in a round, and in the playoff
 PROMPTS, QUESTION = (b"desk> ", *(b"r%d> " % number for number in range(1, 13)), b"playoff> "), b"(y or n) "
-PATIENCE = 20
 # without any package beside: the standard library is all that they need
 PYTHON = sys.executable, "-S", "-B"
+# the prompt, at which nobody has read what came in above a line until the next one was answered, however long a busy machine takes
+SLOW_READER = """
+import sys
+sys.path.insert(0, {extras!r})
+import companions.prompt.session as session
+from companions.prompt.main import main
+session.SECONDS_TO_READ = 1e9
+sys.exit(main())
+"""
 LETTERS = {**os.environ, "LC_ALL": "C.UTF-8", "TERM": "dumb", "INPUTRC": "/dev/null"}
 NAMES = ["Ana Lima", "Bo", "Ana - Bo", "Zoë <b>", "محمد", "007", "-x", 'O\'Neil "Z"', "大会"]
 
@@ -322,37 +331,41 @@ class Terminal:
         return self.read()
 
     def interrupt(self):
-        """Ctrl-C, and what is said then. Python passes over one that comes just before it waits for a key, so it is pressed until something is said."""
-        for _ in range(PATIENCE // 5):
+        """Ctrl-C, and what is said then. Python passes over one that comes just before it waits for a key, so it is pressed until something is said. If
+        it was pressed twice, the first one may have been answered late, and the second one too: then a line whose answer is known ends what is said.
+        """
+        presses = 0
+        while presses < PATIENCE // 5:
             self.keys("\x03")
+            presses += 1
             if select.select([self.master], [], [], 5)[0]:
                 break
-        return self.read()
+        said = self.read()
+        if presses > 1:
+            self.keys("foo bar\r")
+            self.read_for(b"foo is no command. See: help")
+            self.read()
+        return said
 
     def end(self, keys="\x04"):
-        """The status, and what is said at the end."""
-        self.keys(keys)
-        said = self.read(ends=(b"\0",))
-        # pressed again, if they came before it waited for one
-        return self.ended(keys), said
-
-    def ended(self, keys=""):
-        """The status once it has ended. The keys are pressed each second until then, since those that come just before it waits for one are dropped; a
-        prompt that goes on all the same is killed.
+        """The status once it has ended, and what is said by then. The keys are pressed each second until then, since those that come just before it waits
+        for one are dropped; a prompt that goes on all the same is killed.
         """
+        said = b""
         for _ in range(PATIENCE):
             with contextlib.suppress(OSError):
                 self.keys(keys)
             until = time.monotonic() + 1
             while time.monotonic() < until:
                 child, ended = os.waitpid(self.child, os.WNOHANG)
+                said += self.said_now()
                 if child:
                     os.close(self.master)
                     self.child = 0
-                    return os.WEXITSTATUS(ended) if os.WIFEXITED(ended) else -os.WTERMSIG(ended)
-                self.pass_over()
+                    status = os.WEXITSTATUS(ended) if os.WIFEXITED(ended) else -os.WTERMSIG(ended)
+                    return status, said.decode(errors="replace").replace("\r\n", "\n")
         self.kill()
-        return -signal.SIGKILL
+        return -signal.SIGKILL, said.decode(errors="replace")
 
     def kill(self):
         """Ends it, if it still runs."""
@@ -362,13 +375,18 @@ class Terminal:
             os.close(self.master)
             self.child = 0
 
-    def pass_over(self):
-        """Reads what is written to the terminal now, if anything is."""
-        try:
-            if select.select([self.master], [], [], 0.05)[0]:
-                os.read(self.master, 65536)
-        except OSError:
-            time.sleep(0.05)
+    def said_now(self):
+        """What is written to the terminal now, if anything is."""
+        said = b""
+        with contextlib.suppress(OSError):
+            while select.select([self.master], [], [], 0 if said else 0.05)[0]:
+                more = os.read(self.master, 65536)
+                if not more:
+                    break
+                said += more
+            return said
+        time.sleep(0.05)
+        return said
 
 
 class Prompt:
@@ -384,13 +402,14 @@ class Prompt:
         for it in self.begun:
             it.kill()
 
-    def words(self, file, *words, by=None, python=PYTHON):
-        return [*python, self.desk, file, "--program", by or self.program, *words]
+    def words(self, file, by=None, python=PYTHON, reads_slowly=False):
+        desk = ["-c", SLOW_READER.format(extras=os.path.dirname(self.desk))] if reads_slowly else [self.desk]
+        return [*python, *desk, file, "--program", by or self.program]
 
-    def typed(self, file, *lines, words=(), by=None, **how):
+    def typed(self, file, *lines, by=None, **how):
         """The status and what is said, to lines that come from a pipe."""
         text = "".join(f"{line}\n" for line in lines).encode("utf-8", "surrogateescape")
-        ran = subprocess.run(self.words(file, *words, by=by), input=text, capture_output=True, timeout=60, env=LETTERS, **how)
+        ran = subprocess.run(self.words(file, by), input=text, capture_output=True, timeout=PATIENCE, env=LETTERS, **how)
         assert ran.stderr.decode() == "", f"{lines[-1:]}, errors"
         return ran.returncode, ran.stdout.decode()
 
@@ -400,8 +419,8 @@ class Prompt:
     def piped(self, file):
         return self.keep(Piped(self.words(file)))
 
-    def terminal(self, file, by=None, python=PYTHON, **how):
-        return self.keep(Terminal(self.words(file, by=by, python=python), **how))
+    def terminal(self, file, by=None, python=PYTHON, reads_slowly=False, **how):
+        return self.keep(Terminal(self.words(file, by, python, reads_slowly), **how))
 
     def keep(self, it):
         self.begun.append(it)

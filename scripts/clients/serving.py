@@ -6,7 +6,8 @@ import signal
 import socket
 import subprocess
 
-PATIENCE = 20
+from scripts.clients.waiting import PATIENCE
+
 SILENCE = b" .. and then nothing came"
 
 
@@ -91,7 +92,7 @@ class Serving:
 
     def kill(self):
         self.process.kill()
-        self.process.communicate(timeout=60)
+        self.process.communicate(timeout=PATIENCE)
 
     def client(self):
         client = socket.create_connection(("127.0.0.1", self.port), timeout=PATIENCE)

@@ -1,7 +1,6 @@
 """A headless browser whose tabs are phones: 360 pixels wide, with scripts off, by taps or by keys. It is driven by its own protocol (Chrome DevTools
 Protocol) through a pipe, so that no package is needed.
 """
-import base64
 import itertools
 import json
 import os
@@ -12,13 +11,9 @@ import subprocess
 import threading
 import time
 
-BROWSERS = "chromium", "chromium-browser", "google-chrome"
-PATIENCE = 60
+from scripts.clients.waiting import PATIENCE
+
 WIDTH, HEIGHT = 360, 640
-
-
-def found_browser():
-    return next(filter(None, map(shutil.which, BROWSERS)), None)
 
 
 class Browser:
@@ -27,8 +22,8 @@ class Browser:
         to_browser, self.to_browser = os.pipe()
         self.from_browser, from_browser = os.pipe()
         words = [program, "--headless", "--no-sandbox", "--disable-gpu", "--hide-scrollbars", f"--user-data-dir={self.profile}", "--remote-debugging-pipe", "about:blank"]
-        # the browser reads at 3 and writes at 4
-        line = ["sh", "-c", f'exec "$@" 3<&{to_browser} 4>&{from_browser}', "sh", *words]
+        # the browser reads at 3 and writes at 4; other shells know no number of two digits
+        line = ["bash", "-c", f'exec "$@" 3<&{to_browser} 4>&{from_browser}', "bash", *words]
         self.process = subprocess.Popen(
             line,
             stdin=subprocess.DEVNULL,
@@ -142,7 +137,3 @@ class Phone:
         self.send("Input.dispatchKeyEvent", type="keyUp", **words)
         if leads_on:
             self.loaded()
-
-    def picture(self, path):
-        with open(path, "wb") as it:
-            it.write(base64.b64decode(self.send("Page.captureScreenshot", format="png")["data"]))

@@ -3,12 +3,11 @@ there in that alone, or nothing is done.
 """
 import os
 import shutil
-import subprocess
-import sys
 
 import pytest
 
 from scripts.clients.event_files import make_old, rows_alone, rows_of
+from scripts.clients.inside import exchange_is_killed
 from scripts.clients.prompt import check_said, match_shown, unfilled
 from scripts.models.plain_event import Event
 from scripts.models.plain_file import read
@@ -275,32 +274,6 @@ def test_scores_of_the_playoff_are_taken_back(prompt, program, played):
 # ---- killed in the middle of the exchange
 
 
-KILLED = """
-import builtins, os, sys
-sys.path.insert(0, {extras!r})
-import companions.files
-from companions.copies import Copies, Copy
-from companions.turn import Turn
-calls = 0
-def stopping(call):
-    def called(*words, **more):
-        global calls
-        calls += 1
-        if calls == {stop}:
-            os._exit(9)
-        return call(*words, **more)
-    return called
-for name in ("open", "rename", "unlink", "fsync", "chmod", "makedirs"):
-    setattr(os, name, stopping(getattr(os, name)))
-builtins.open = stopping(open)
-companions.files.shutil.copyfileobj = stopping(companions.files.shutil.copyfileobj)
-exchange = companions.files.exchange
-import companions.copies
-companions.copies.exchange = stopping(exchange)
-Copies({file!r}, Turn({file!r})).put_in_place(Copy(0, "", "", {new!r}), "plan")
-"""
-
-
 def test_killed_at_each_call_of_the_exchange(program, prompt, played, room, extras):
     """FILE is the old event or the new one, whole, and the next exchange works."""
     os.mkdir(f"{room}/new")
@@ -312,15 +285,13 @@ def test_killed_at_each_call_of_the_exchange(program, prompt, played, room, extr
         stop += 1
         file = f"{room}/{stop}.event"
         shutil.copy(played, file)
-        code = KILLED.format(extras=extras, stop=stop, file=file, new=new)
-        status = subprocess.run([sys.executable, "-S", "-B", "-c", code], timeout=60).returncode
+        was_killed = exchange_is_killed(extras, file, new, stop)
         rows = rows_alone(file)
         assert rows in (old_rows, new_rows), f"killed before call {stop}"
         assert program.run("players", file)[0] == 0, f"killed before call {stop}, it opens"
         was.append(rows == new_rows)
-        if status == 0:
+        if not was_killed:
             break
-        assert status == 9
     # first the old one and then the new one
     assert was == sorted(was) and len(was) > 8 and was[-1] and not was[0]
 

@@ -1,4 +1,4 @@
-"""The man page and the completions in `extras/`, held against what `--help` of the program as it is built lists: the subcommands, and the words of
+"""The man page and the completions in `extras`, held against what `--help` of the program as it is built lists: the subcommands, and the words of
 each. The completion for bash is run.
 """
 import re
@@ -7,6 +7,7 @@ import subprocess
 import pytest
 
 from scripts.clients import subcommands
+from scripts.clients.waiting import PATIENCE
 
 
 @pytest.fixture
@@ -26,7 +27,7 @@ def kinds(program):
 
 @pytest.fixture
 def text_of(extras):
-    return lambda name: open(f"{extras}/event_reporter.{name}", encoding="utf-8").read()
+    return lambda path: open(f"{extras}/{path}", encoding="utf-8").read()
 
 
 @pytest.fixture
@@ -35,8 +36,8 @@ def completed(extras):
 
     def complete(*words):
         script = '. "$1"; shift; COMP_WORDS=(event_reporter "$@"); COMP_CWORD=$#; _event_reporter; printf "%s\\n" "${COMPREPLY[@]}"'
-        words = ["bash", "-c", script, "bash", f"{extras}/event_reporter.bash", *words]
-        return subprocess.run(words, capture_output=True, text=True, timeout=60, check=True).stdout.split()
+        words = ["bash", "-c", script, "bash", f"{extras}/completions/event_reporter.bash", *words]
+        return subprocess.run(words, capture_output=True, text=True, timeout=PATIENCE, check=True).stdout.split()
 
     return complete
 
@@ -46,24 +47,24 @@ def test_each_subcommand_has_its_own_help(program, names):
 
 
 def test_man(listed, text_of):
-    assert re.findall(r'^\.BI ([a-z]+) " ([A-Z ]+)"$', text_of("1"), re.M) == listed
-    assert text_of("1").split("\n")[0] == '.TH EVENT_REPORTER 1 "" "event_reporter" "User Commands"', "neither date nor version until it is installed"
+    assert re.findall(r'^\.BI ([a-z]+) " ([A-Z ]+)"$', text_of("man/event_reporter.1"), re.M) == listed
+    assert text_of("man/event_reporter.1").split("\n")[0] == '.TH EVENT_REPORTER 1 "" "event_reporter" "User Commands"', "neither date nor version until it is installed"
 
 
 def test_zsh(listed, kinds, text_of):
-    assert re.findall(r"^    '([a-z]+):([A-Z ]+)'$", text_of("zsh"), re.M) == listed
-    assert re.findall(r"4,export\) compadd (.*) ;;", text_of("zsh")) == [" ".join(kinds)]
+    assert re.findall(r"^    '([a-z]+):([A-Z ]+)'$", text_of("completions/event_reporter.zsh"), re.M) == listed
+    assert re.findall(r"4,export\) compadd (.*) ;;", text_of("completions/event_reporter.zsh")) == [" ".join(kinds)]
 
 
 def test_fish(listed, kinds, text_of):
-    assert re.findall(r"-a ([a-z]+) -d '([A-Z ]+)'$", text_of("fish"), re.M) == listed
-    assert re.findall(r"seen_subcommand_from export' -a '(.*)'$", text_of("fish"), re.M) == [" ".join(kinds)]
+    assert re.findall(r"-a ([a-z]+) -d '([A-Z ]+)'$", text_of("completions/event_reporter.fish"), re.M) == listed
+    assert re.findall(r"seen_subcommand_from export' -a '(.*)'$", text_of("completions/event_reporter.fish"), re.M) == [" ".join(kinds)]
 
 
 def test_bash(completed, names, kinds, extras):
     assert completed("") == [*names, "--help", "--version"]
     assert completed("st") == ["start", "standings"], "a beginning"
     assert completed("export", "friday.event", "") == kinds
-    assert completed("import", f"{extras}/event_reporter.f") == [f"{extras}/event_reporter.fish"], "a file"
-    assert completed("import", "friday.event", f"{extras}/event_reporter.z") == [f"{extras}/event_reporter.zsh"], "a second one"
+    assert completed("import", f"{extras}/completions/event_reporter.f") == [f"{extras}/completions/event_reporter.fish"], "a file"
+    assert completed("import", "friday.event", f"{extras}/completions/event_reporter.z") == [f"{extras}/completions/event_reporter.zsh"], "a second one"
     assert completed("start", "friday.event", "") == [], "no more"

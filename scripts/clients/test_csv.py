@@ -8,6 +8,7 @@ import pytest
 
 from scripts.clients.event_files import as_nobody, due, event_of_four, make_old
 from scripts.clients.program import laid
+from scripts.clients.waiting import PATIENCE
 from scripts.models.plain_csv import MOST_BYTES
 
 ZERO = "0" * 64
@@ -172,7 +173,7 @@ def test_paths(program, room, file, names):
 def test_an_output_that_is_full(program, file, names, name):
     with open("/dev/full", "wb") as full:
         words = [program.path, name, file, names if name == "import" else "players"]
-        ran = subprocess.run(words, stdin=subprocess.DEVNULL, stdout=full, stderr=subprocess.PIPE, timeout=60)
+        ran = subprocess.run(words, stdin=subprocess.DEVNULL, stdout=full, stderr=subprocess.PIPE, timeout=PATIENCE)
     assert (ran.returncode, ran.stderr) == (3, b"")
 
 

@@ -16,12 +16,14 @@ import tempfile
 import pytest
 
 from scripts import TOP
-from scripts.clients.event_files import as_nobody, copied, due, event_of_four, make_four, make_old, rows_alone, rows_of
+from scripts.clients.event_files import as_nobody, by_sqlite, copied, due, event_of_four, make_four, make_old, rows_alone, rows_of
 from scripts.clients.serving import Serving, hear_interrupts, served
 from scripts.clients.program import laid
 from scripts.clients.transcripts import parts_of
+from scripts.clients.waiting import PATIENCE
 from scripts.models.plain_event import Event
 from scripts.models.plain_log import committed
+from scripts.models.schema import PLAYER2
 
 def words_of(line, file):
     name, *rest = line.rstrip(b"\n").split(b"\t")
@@ -66,14 +68,6 @@ def refused(number, name):
 def made(program, file):
     """An event of two players."""
     return program.played(file, [("enrol", "Ana"), ("enrol", "Bo")])
-
-
-def by_sqlite(file, *statements):
-    base = sqlite3.connect(file, isolation_level=None)
-    for it in statements:
-        base.execute(it).fetchall()
-    base.close()
-    return file
 
 
 def bytes_of(file):
@@ -356,12 +350,12 @@ def test_terminal(program):
     ours, its = pty.openpty()
     at_terminal = subprocess.Popen([program.path], stdin=its, stdout=subprocess.PIPE, stderr=subprocess.PIPE)
     os.write(ours, b"init\tFriday\t3\t0\nplayers\n\x04")
-    out, err = at_terminal.communicate(timeout=60)
+    out, err = at_terminal.communicate(timeout=PATIENCE)
     os.close(ours)
     os.close(its)
     assert (at_terminal.returncode, out) == (0, b"ok 0\n  No D Name\n"), "a script on a terminal"
     assert (err.startswith(b"event_reporter: "), b"--help" in err) == (True, True), "a terminal is told"
-    ran = subprocess.run([program.path], input=b"players\n", capture_output=True, timeout=60)
+    ran = subprocess.run([program.path], input=b"players\n", capture_output=True, timeout=PATIENCE)
     assert (ran.returncode, ran.stdout, ran.stderr) == (0, b"refused 27 NoEvent\n", b""), "a pipe is not"
 
 
@@ -428,7 +422,7 @@ class Desk:
 
     def type(self, line):
         """What a line prints to a shell in the folder."""
-        ran = subprocess.run(line, shell=True, cwd=self.room, stdin=subprocess.DEVNULL, stdout=subprocess.PIPE, stderr=subprocess.STDOUT, timeout=60)
+        ran = subprocess.run(line, shell=True, cwd=self.room, stdin=subprocess.DEVNULL, stdout=subprocess.PIPE, stderr=subprocess.STDOUT, timeout=PATIENCE)
         return ran.stdout
 
     def shows(self, what, file, event):
@@ -576,7 +570,7 @@ def test_version_1_with_512_players_and_the_last_serial(program, room):
 
 # what bears the name of the table that a migration makes
 TAKEN = [
-    ("a table", "CREATE TABLE player2(no INTEGER PRIMARY KEY, name TEXT NOT NULL UNIQUE, dropped INTEGER NOT NULL, joined INTEGER NOT NULL)"),
+    ("a table", PLAYER2),
     ("another program's table", "CREATE TABLE Player2(body TEXT)"),
     ("a view", "CREATE VIEW player2 AS SELECT no, name, dropped, 0 AS joined FROM player"),
     ("an index", "CREATE INDEX player2 ON player(dropped)"),

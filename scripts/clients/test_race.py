@@ -6,7 +6,6 @@ At each window sits somebody who holds slips: a round, a table, two players and 
 alone, and otherwise the round too; a question is answered yes only where it names the slip's round, its players and its score. So each slip is stored
 at its own round and table, or declined.
 """
-import contextlib
 import copy
 import fcntl
 import glob
@@ -25,15 +24,15 @@ import pytest
 from scripts.clients.event_files import copied, rows_of, rows_of_copy
 from scripts.clients.prompt import LETTERS, Terminal
 from scripts.clients.random_evenings import is_of_playoff, is_of_swiss, lawful
+from scripts.clients.waiting import PATIENCE, comes
 from scripts.models.plain_event import ENROLLING, FINISHED, PLAYOFF, SWISS, Event, is_complete
 from scripts.models.plain_file import read
-from scripts.models.plain_page import Page, shown_standings, standings_due
+from scripts.models.plain_page import Page, final_rows, ranks_due, shown_rows, shown_standings
 from scripts.models.random_play import random_playoff_score, random_score
 
 # of windows alone, and with phones and a board beside them
 CASES = {"evening": (2, 150), "crowded": (2, 80)}
 TITLE = "Friday <Night>"
-PATIENCE = 40
 MOST_STEPS = 400
 PROMPT = rb"(?:desk|playoff|r[0-9]+)> "
 QUESTION = b"(y or n) "
@@ -46,9 +45,16 @@ LOOKS = """\
 where
 open
 phones
+judge {table}
+note
+note {table} +5 min
+note {table} off
 round
 round {round}
 slips {round}
+entries
+entries on
+entries out 2
 check
 check {round}
 keys
@@ -80,6 +86,9 @@ foo
 init Another One 3 0
 plan
 copies
+draw
+draw maybe
+number 1 3 8 11 17
 take back 999
 take back drop 999
 remove 999
@@ -171,12 +180,7 @@ class Window(Terminal):
     def leave(self, keys):
         """Its status, and what it said."""
         self.drain()
-        self.keys(keys)
-        said = b""
-        with contextlib.suppress(OSError):
-            while True:
-                said += os.read(self.master, 65536)
-        return self.ended(), said.decode()
+        return self.end(keys)
 
     def begin_again(self):
         super().__init__(self.words, HEADLESS)
@@ -207,7 +211,7 @@ class Phone:
         from scripts.clients.phone_rooms import address
 
         slip = move.slip
-        target = self.secret.target(slip.number, Match(slip.table, slip.first, slip.second, ""))
+        target = self.secret.target(slip.number, Match(slip.table, slip.first, slip.second))
         status, location = self.gateway.hand_in(target, "-".join(map(str, slip.score)), address(self.number))
         move.said = f"{status} {location}"
 
@@ -270,7 +274,7 @@ class Race:
 
     def seat(self, count):
         for name in "abc"[:count]:
-            self.windows.append(self.prompt.keep(Window(self.prompt.words(self.file), f"window {name}")))
+            self.windows.append(self.prompt.keep(Window(self.prompt.words(self.file, reads_slowly=True), f"window {name}")))
 
     # ---- a step, and what the file is after it
 
@@ -629,7 +633,7 @@ def boards(program, extras):
     begun = []
 
     def begin(file, page):
-        words = [sys.executable, "-B", f"{extras}/sheets.py", file, "--program", program.path, "--board", "--watch", page]
+        words = [sys.executable, "-B", f"{extras}/event-sheets", file, "--program", program.path, "--board", "--watch", page]
         begun.append(subprocess.Popen(words, stdin=subprocess.DEVNULL, stdout=subprocess.DEVNULL, stderr=subprocess.PIPE))
         return begun[-1]
 
@@ -640,12 +644,15 @@ def boards(program, extras):
 
 
 def shows(page, event):
-    """Whether a board has the standings of the event, and nothing else."""
+    """Whether a board has the standings of the event, or its final ranking, and nothing else."""
     if not os.path.exists(page):
         return False
     with open(page, encoding="utf-8") as written:
         parts = Page(written.read()).parts()
-    return "standings" in parts and shown_standings(parts["standings"])[0] == standings_due(event)
+    if event.phase == FINISHED:
+        return "final" in parts and shown_rows(parts["final"]) == final_rows(event)
+    # who has never sat at a table is left out
+    return "standings" in parts and shown_standings(parts["standings"])[0] == [it for it in ranks_due(event) if it[4]]
 
 
 @pytest.mark.needs("phones and a board that race", module="waitress", package="python3-waitress")
@@ -660,10 +667,7 @@ def test_windows_phones_and_a_board(prompt, dice, room, gateways, boards, crowde
     race.play_on()
     while race.scanned:
         race.do(race.scan())
-    until = time.monotonic() + PATIENCE
-    while not shows(f"{room}/board.html", race.event) and time.monotonic() < until:
-        time.sleep(0.1)
-    assert shows(f"{room}/board.html", race.event), race.story("the board shows another event")
+    assert comes(lambda: shows(f"{room}/board.html", race.event)), race.story("the board shows another event")
     assert board.poll() is None, "the board goes on"
     race.end()
 

@@ -6,13 +6,13 @@ The prompt's own module is called, and asks the program, so that hundreds of cha
 import contextlib
 import copy
 import io
-import os
 import sys
 import tempfile
 import time
 
 import pytest
 
+from scripts.clients.inside import IN_MEMORY
 from scripts.clients.random_evenings import is_of_playoff, is_of_swiss, lawful
 from scripts.models.plain_event import ENROLLING, FINISHED, PLAYOFF, SWISS
 from scripts.models.plain_file import read
@@ -20,8 +20,6 @@ from scripts.models.random_play import random_playoff_score, random_score
 
 CASES = {"number": (20, 1_000)}
 CHANGES = 10
-# what a file is written to without waiting for a disk, if there is such a folder
-IN_MEMORY = "/dev/shm" if os.access("/dev/shm", os.W_OK) else None
 NAMES = "Ana {}", "Bo, {}", "-x {}", "Zoë <{}>", "Łukasz {}", "O'Neil \"{}\"", "{}", "=1+{}"
 
 
@@ -45,12 +43,12 @@ class Evening:
 
     def __init__(self, program, extras, dice, room):
         sys.path.insert(0, extras)
-        from companions.program import OverFile
+        from companions.program import Source
         from companions.prompt.desk import Desk
         from companions.turn import Turn
 
         self.file, self.dice, self.program = f"{room}/e.event", dice, program
-        self.sources = [OverFile(program.path, self.file, Turn(self.file, makes_file=True)) for _ in range(3)]
+        self.sources = [Source(program.path, self.file, Turn(self.file, makes_file=True)) for _ in range(3)]
         self.desks, self.answers = [Desk(source, self.file) for source in self.sources[:2]], Answers()
         for desk in self.desks:
             desk.lines.typing = self.answers
@@ -108,9 +106,10 @@ class Evening:
     def hand_in(self, event, table, score):
         """As a phone does: the score goes to the program, and a report of it lies beside the event."""
         from companions.reports import STORED, TIME, Report, Reports
+        from companions.score import Score
 
-        number, said = len(event.stored), "-".join(map(str, score))
-        self.sources[2].report(number, str(table), tuple(map(str, score)))
+        number, said = len(event.stored), Score(*score)
+        self.sources[2].report(number, str(table), said)
         first, second, _ = event.stored[-1][table - 1]
         Reports(self.file).add(Report(time.strftime(TIME), number, table, first, second, said, STORED, said, "10.0.0.7"))
 

@@ -1,62 +1,19 @@
-"""Where the pages of `extras/sheets.py` go: into a file beside the event at a terminal, into a file that is named, into a pipe; and that a run which fails
-leaves the page before as it was. What stands on the pages is compared in `run_sheets.py`.
+"""Where the pages of `extras/event-sheets` go: into a file beside the event at a terminal, into a file that is named, into a pipe; and that a run which fails
+leaves the page before as it was. What stands on the pages is compared in `test_sheet_pages.py`.
 """
-import os
-import pty
-import subprocess
-import sys
-
 import pytest
 
 from scripts.clients.random_evenings import COMPLETE, evening, laid
+from scripts.clients.sheets import BEFORE
 from scripts.models.plain_page import Page, heading
 
 pytestmark = pytest.mark.needs("sheets and boards", module="jinja2", package="python3-jinja2")
-BEFORE = "<p>the page before</p>\n"
-
-
-class Sheets:
-    """The command line over one event, in the folder where that is."""
-
-    def __init__(self, program, extras, room):
-        self.room, self.line = room, [sys.executable, "-B", f"{extras}/sheets.py", "--program", program.path]
-
-    def printed(self, *words):
-        """The status, the output and the errors, where the output is no terminal."""
-        ran = subprocess.run([*self.line, *words], cwd=self.room, stdin=subprocess.DEVNULL, capture_output=True, timeout=60)
-        return ran.returncode, ran.stdout.decode(), ran.stderr.decode()
-
-    def at_a_terminal(self, *words):
-        """The status, and what is said there."""
-        child, master = pty.fork()
-        if child == 0:
-            os.chdir(self.room)
-            os.execvp(self.line[0], [*self.line, *words])
-        said = b""
-        try:
-            while True:
-                said += os.read(master, 65536)
-        except OSError:
-            os.close(master)
-        return os.WEXITSTATUS(os.waitpid(child, 0)[1]), said.decode().replace("\r\n", "\n")
-
-    def read(self, name):
-        with open(f"{self.room}/{name}", encoding="utf-8", newline="") as page:
-            return page.read()
-
-    def lay(self, name):
-        with open(f"{self.room}/{name}", "w", encoding="utf-8") as page:
-            page.write(BEFORE)
-
-    def there(self):
-        """What lies there, without the log of the file that was laid by SQL."""
-        return sorted(it for it in os.listdir(self.room) if not it.endswith("-wal"))
 
 
 @pytest.fixture
-def sheets(program, extras, room, dice):
+def sheets(sheets, program, room, dice):
     laid(program.path, f"{room}/friday.event", evening(dice, 9, COMPLETE, 3, 4), "Friday <Night>")
-    return Sheets(program, extras, room)
+    return sheets
 
 
 @pytest.fixture
@@ -107,7 +64,6 @@ def test_into_a_file_that_is_named(sheets, words):
     (1, ["friday.event", "--round", "9"]),
     (1, ["none.event", "--board"]),
     (3, ["friday.event", "--program", "/none"]),
-    (3, ["friday.event", "--port", "1"]),
 ])
 def test_a_run_that_fails_leaves_the_page_before(sheets, status, words):
     sheets.lay("page.html")

@@ -9,6 +9,7 @@ import pytest
 
 from scripts.clients.event_files import as_nobody
 from scripts.clients.prompt import LETTERS, PYTHON, check_said, keys_of, match_shown, player_shown, unfilled
+from scripts.clients.waiting import PATIENCE
 from scripts.models.plain_file import read
 
 NAMES = "Ana Lima", "Bo Sato", "Cy Young", "Di Ito"
@@ -162,7 +163,7 @@ def test_drop_is_not_asked_for_what_is_refused(prompt, started):
 
 
 def test_a_file_with_spaces_goes_into_quotes(prompt):
-    ran = subprocess.run([*PYTHON, prompt.desk, "my", "event.event"], capture_output=True, timeout=60, env=LETTERS)
+    ran = subprocess.run([*PYTHON, prompt.desk, "my", "event.event"], capture_output=True, timeout=PATIENCE, env=LETTERS)
     assert (ran.returncode, b"event-desk 'my event.event'" in ran.stderr) == (2, True)
 
 
@@ -246,7 +247,7 @@ def test_a_folder_that_nobody_may_write(prompt, room):
     os.chmod(room, 0o755)
     os.chmod(folder, 0o555)
     become = {"preexec_fn": as_nobody} if os.geteuid() == 0 else {}
-    ran = subprocess.run(prompt.words(f"{folder}/e.event"), input=b"init A 1 0\n", capture_output=True, timeout=60, env=LETTERS, **become)
+    ran = subprocess.run(prompt.words(f"{folder}/e.event"), input=b"init A 1 0\n", capture_output=True, timeout=PATIENCE, env=LETTERS, **become)
     text = ran.stdout.decode()
     check_said("it says so", text, f"You may not write into the folder {folder}.", "event-desk ~/friday.event")
     assert "another program" not in text

@@ -12,6 +12,7 @@ import pytest
 from scripts import TOP
 from scripts.clients.prompt import check_said, unfilled
 from scripts.clients.random_evenings import laid
+from scripts.clients.waiting import PATIENCE
 from scripts.models.plain_event import Event
 from scripts.models.plain_file import read
 
@@ -48,7 +49,7 @@ def begun(prompt, started):
 
 def test_a_slip_of_the_round_before_at_a_terminal(prompt, begun):
     """The news stands above the line, the prompt says the new round, and the score that was begun before it is asked for."""
-    one = prompt.terminal(begun)
+    one = prompt.terminal(begun, reads_slowly=True)
     assert one.began.endswith("r1> ")
     one.keys("2 2")
     prompt.said(begun, "2 0 2", "pair")
@@ -65,10 +66,10 @@ def test_a_slip_of_the_round_before_at_a_terminal(prompt, begun):
 
 def test_a_slip_of_the_round_before_right_after_the_news(prompt, begun):
     """Who types when the news comes hasn't read it yet, though nothing of the line was there."""
-    one = prompt.terminal(begun)
+    one = prompt.terminal(begun, reads_slowly=True)
     prompt.said(begun, "2 0 2", "pair")
     assert "was paired, at " in one.read_for(b"r2> ")
-    check_said("it asks", one.send("2 2 0"), "Is this a score of round 2? (y or n) ")
+    check_said("it asks", one.send("2 2 0"), "Round 2 was paired meanwhile", "Is this a score of round 2? (y or n) ")
     check_said("yes", one.send("y"), "Round 2, table 2: ", "ok ", "r2> ")
     check_said("and then no more", one.send("1 2 0"), "Round 2, table 1: ", "ok ")
     assert scores(begun, 2) == [(2, 0, 0), (2, 0, 0)]
@@ -77,7 +78,7 @@ def test_a_slip_of_the_round_before_right_after_the_news(prompt, begun):
 
 def test_lines_that_were_typed_ahead_are_of_the_round_that_was_shown(prompt, begun):
     """Two slips at once, of which the first is read while the other window pairs."""
-    one = prompt.terminal(begun)
+    one = prompt.terminal(begun, reads_slowly=True)
     prompt.said(begun, "2 0 2", "pair")
     one.keys("1 0 2\r2 0 2\r")
     text = one.read_for(b"Round 2, table 2: ")
@@ -104,7 +105,7 @@ def test_a_slip_of_the_round_before_by_a_pipe(prompt, begun):
 def test_a_round_that_another_window_paired_again(prompt, begun):
     """The number of the round is the same, and others sit at its tables."""
     prompt.said(begun, "2 0 2", "pair")
-    one = prompt.terminal(begun)
+    one = prompt.terminal(begun, reads_slowly=True)
     assert one.began.endswith("r2> ")
     before = [match[:2] for match in read(begun).stored[1]]
     for _ in range(20):
@@ -120,7 +121,7 @@ def test_a_round_that_another_window_paired_again(prompt, begun):
 
 
 def test_fix_without_a_round_is_of_the_round_that_was_shown(prompt, begun):
-    one = prompt.terminal(begun)
+    one = prompt.terminal(begun, reads_slowly=True)
     prompt.said(begun, "2 0 2", "pair", "1 2 1", "2 2 1")
     one.read_for(b"r2> ")
     check_said("it asks", one.send("fix 2 1 2"), "Is this a score of round 2? (y or n) ")
@@ -159,10 +160,11 @@ def test_who_goes_home_has_a_name(prompt, begun, extras):
     """Also where the prompt has shown no name yet."""
     sys.path.insert(0, extras)
     from companions.reports import TIME, Report, Reports
+    from companions.score import Score
 
     one = prompt.terminal(begun)
     first, second, _ = read(begun).stored[0][0]
-    Reports(begun).add(Report(time.strftime(TIME), 1, 1, first, second, "2-0-0", "same", "2-0-0", "10.0.0.7", (second,)))
+    Reports(begun).add(Report(time.strftime(TIME), 1, 1, first, second, Score(2, 0), "same", Score(2, 0), "10.0.0.7", (second,)))
     told = one.read_for(b"drop ")
     assert f"{read(begun).names[second - 1]} ({second}) wants to go home after the round: drop" in told, told
     assert one.end()[0] == 0
@@ -236,7 +238,7 @@ def test_a_round_that_was_paired_again_is_checked_by_its_own_key(prompt, program
             with open(f"{room}/{kind}.csv", "wb") as it:
                 it.write(program.did("export", begun, kind))
         paths = [f"{room}/players.csv", f"{room}/results.csv", f"{begun}.keys"]
-        ran = subprocess.run(["bash", f"{TOP}/scripts/check", *paths], capture_output=True, timeout=60)
+        ran = subprocess.run(["bash", f"{TOP}/scripts/check", *paths], capture_output=True, timeout=PATIENCE)
         return ran.returncode, ran.stdout.decode()
 
     good = 0, "round 1: as the rules pair it by its key\nround 2: as the rules pair it by its key\n"

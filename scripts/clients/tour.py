@@ -9,6 +9,7 @@ import subprocess
 
 from scripts import TOP
 from scripts.clients.serving import free_port
+from scripts.clients.waiting import PATIENCE
 
 PORT = "8080"
 BLOCK = re.compile(r"(?<=^```console\n)(.*?)(?=^```)", re.M | re.S)
@@ -36,11 +37,11 @@ class Tour:
     def printed(self, typed, lines):
         """What the line prints; of one that goes on behind the others, so many lines."""
         if typed == "wait":
-            return self.behind.communicate(timeout=60)[0]
+            return self.behind.communicate(timeout=PATIENCE)[0]
         if typed.endswith(" &"):
             self.behind = subprocess.Popen("exec " + typed[: -len(" &")], bufsize=0, **self.how)
             return b"".join(self.behind.stdout.readline() for _ in range(lines))
-        return subprocess.run(typed, timeout=60, **self.how).stdout
+        return subprocess.run(typed, timeout=PATIENCE, **self.how).stdout
 
     def run(self, typed, shown):
         printed = self.printed(typed.replace(PORT, self.port), shown.count("\n"))

@@ -5,23 +5,14 @@ it holds none, and keeps its bytes until then; but the empty one, which is begun
 """
 import concurrent.futures
 import os
-import sqlite3
 import sys
 import tempfile
 
-from scripts.clients.event_files import copied, due, event_of_four, make_four, make_old, run
+from scripts.clients.event_files import by_sqlite, copied, due, event_of_four, make_four, make_old, run
 from scripts.faults.stopping import STOPS, calls_of, meddling, ways
 
 INIT, PLAYERS, MIGRATE = ("init", "E", "3", "0"), ("players",), ("migrate",)
 STORE, NO_EVENT, EXISTS, DAMAGED = (due([f"refused {it}"]) for it in ("25 Store", "27 NoEvent", "28 EventExists", "29 Damaged"))
-
-
-def by_sqlite(file, statement):
-    """Another program's change, which puts the log into the file too, and takes it away."""
-    base = sqlite3.connect(file)
-    base.execute(statement)
-    base.commit()
-    base.close()
 
 
 def laid(file, data):

@@ -1,18 +1,15 @@
 """Says of each round whether it is the one that the rules give by its key (docs/RULES.md, Swiss pairing). It takes the two lists of `export` and the
 keys, and asks nothing of the program, so that somebody who doubts it can check a round.
 """
-import argparse
 import itertools
 import re
-import sys
 
 from scripts.models.chacha20 import words_of
-from scripts.models.plain_csv import Fault, names_of, number, records
+from scripts.models.plain_csv import Fault, number, records
 from scripts.models.plain_event import OutOfSteps, earliest
 
 AS_THE_RULES, OTHERWISE = "as the rules pair it by its key", "not as the rules pair it from the scores as they are now"
 CORRECTED = "Where a score of an earlier round was corrected since, this can't be told"
-EXAMPLE = "example: scripts/check players.csv results.csv friday.event.keys"
 
 
 def keys_of(text):
@@ -94,27 +91,3 @@ def results_of(data, players):
             raise Fault(f"bad csv row {place}\n")
         found.append((*numbers, score))
     return found
-
-
-def read(path):
-    with open(path, "rb") as it:
-        return it.read()
-
-
-def main():
-    words = argparse.ArgumentParser(prog="scripts/check", description="Checks each round of an event by a second reading of the rules, without the program.", epilog=EXAMPLE)
-    words.add_argument("players", metavar="PLAYERS.csv", help="what `event_reporter export FILE players` prints")
-    words.add_argument("results", metavar="RESULTS.csv", help="what `event_reporter export FILE results` prints")
-    words.add_argument("keys", metavar="KEYS", help="the file FILE.keys, which the prompt keeps")
-    given = words.parse_args()
-    try:
-        players, results, keys = map(read, (given.players, given.results, given.keys))
-        lines = verdicts(results_of(results, len(names_of(players))), keys_of(keys.decode("utf-8", "replace")))
-    except (Fault, OSError) as fault:
-        sys.exit(f"scripts/check: {str(fault).strip()}")
-    print("\n".join(lines) or "no round is paired yet")
-    sys.exit(0 if all(it.endswith(AS_THE_RULES) for it in lines) else 1)
-
-
-if __name__ == "__main__":
-    main()

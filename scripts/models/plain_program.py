@@ -13,18 +13,17 @@ import sys
 if __name__ == "__main__":
     sys.path.insert(0, os.path.dirname(os.path.dirname(os.path.dirname(os.path.realpath(__file__)))))
 
-from scripts.clients.event_files import OLD_TABLES, rows_of
+from scripts.clients.event_files import rows_of
 from scripts.models import plain_file
 from scripts.models.plain_csv import MOST_BYTES, imported
 from scripts.models.plain_event import Event
 from scripts.models.plain_http import read_of, served
 from scripts.models.plain_script import SHORT, Script, Usage, answers, may_begin, number, read
+from scripts.models.schema import TABLES
 
 UNKNOWN = "the plain reading has no answer to this"
 STORE, NO_EVENT = "refused 25 Store", "refused 27 NoEvent"
 MOST_CONNECTIONS = 1_000_000
-PLAYERS = "CREATE TABLE player2(no INTEGER PRIMARY KEY, name TEXT NOT NULL UNIQUE, dropped INTEGER NOT NULL, joined INTEGER NOT NULL)"
-TABLES = [(PLAYERS if "TABLE player(" in it else it).replace("CREATE TABLE", "CREATE TABLE IF NOT EXISTS") for it in OLD_TABLES]
 
 
 class Refused(Exception):
@@ -70,10 +69,9 @@ class File:
         """All rows, in place of those that are there."""
         with contextlib.closing(sqlite3.connect(path, isolation_level=None)) as base:
             base.execute("BEGIN")
-            for statement in TABLES:
+            for table, statement, rows in zip(plain_file.tables_of(2), TABLES[2], rows_of(event, name)):
+                base.execute(f"DROP TABLE IF EXISTS {table}")
                 base.execute(statement)
-            for table, rows in zip(plain_file.tables_of(2), rows_of(event, name)):
-                base.execute(f"DELETE FROM {table}")
                 for row in rows:
                     base.execute(f"INSERT INTO {table} VALUES ({', '.join('?' * len(row))})", row)
             base.execute("COMMIT")

@@ -1,6 +1,5 @@
-"""Serves slips on the program as it is built, to the requests of the worked examples and to clients of many kinds: ones that send a byte at a
-time, that stop half-way, that go away, that wait in a line; `curl`, `jq` and Python's own client. Where `curl` or `jq` isn't installed, what
-needs it is left out, and a line says so.
+"""Slips over HTTP: the requests of the worked examples, and clients of many kinds: ones that send a byte at a time, that stop half-way, that go away, that
+wait in a line; `curl`, `jq` and Python's own client.
 """
 import errno
 import http.client
@@ -13,16 +12,15 @@ import socket
 import sqlite3
 import struct
 import subprocess
-import sys
 import tempfile
 import time
+import zlib
 
-from scripts.clients.event_files import due
+import pytest
+
+from scripts.clients.event_files import by_sqlite, due
 from scripts.clients.serving import Serving, free_port, hear_interrupts, received, sent_to_the_end, sent_whole, served
-from scripts.clients.tally import check, end, left_out
-
-program = sys.argv[1]
-kitchen = tempfile.TemporaryDirectory()
+from scripts.clients.waiting import PATIENCE
 
 ZERO = "0" * 64
 FRIDAY = [("init", "Friday", "3", "0"), *(("enrol", it) for it in ("Ana", "Bo", "Cy", "Di")), ("start",), ("pair", "1", ZERO)]
@@ -33,31 +31,28 @@ POST = b"POST /rounds/1/tables/1 HTTP/1.1\r\nContent-Length: 19\r\n\r\n" + BODY
 DELETE = b"DELETE /standings HTTP/1.1\r\n\r\n"
 
 
-def run(*words):
-    ran = subprocess.run([program, *words], stdin=subprocess.DEVNULL, capture_output=True, timeout=60)
-    return ran.returncode, ran.stdout, ran.stderr
+@pytest.fixture(scope="module")
+def templates():
+    """Events of which each test has a copy: thousands of command lines would take long."""
+    with tempfile.TemporaryDirectory() as folder:
+        yield folder
 
 
-templates = {}
-
-
-def copy(template, file):
-    for more in ("", "-wal"):
-        if os.path.exists(template + more):
-            shutil.copy(template + more, file + more)
-    return file
-
-
-def made(file, lines=FRIDAY):
+@pytest.fixture
+def made(program, templates):
     """A fresh event on which these lines were taken."""
-    key = str(lines)
-    if key not in templates:
-        template = f"{kitchen.name}/{len(templates)}"
-        for name, *words in lines:
-            ran = run(name, template, *words)
-            assert ran[0] == 0, (name, words, ran)
-        templates[key] = template
-    return copy(templates[key], file)
+
+    def make(file, lines=FRIDAY):
+        template = f"{templates}/{zlib.crc32(repr(lines).encode())}"
+        if not os.path.exists(template):
+            for name, *words in lines:
+                program.did(name, template, *words)
+        for ending in ("", "-wal"):
+            if os.path.exists(template + ending):
+                shutil.copy(template + ending, file + ending)
+        return file
+
+    return make
 
 
 def serial_of(file):
@@ -113,29 +108,33 @@ PAIRINGS = text_of(" Tab    A    B Score Names", "   1    4    2 -     Di - Bo",
 # ---- the worked examples
 
 
-def asked(name, file, *exchanges, is_slow=False, **how):
+def asked(program, name, file, *exchanges, is_slow=False, **how):
     """One run of `serve`, to these inputs, one after the other: in one piece, or byte by byte."""
-    with Serving(program, file, len(exchanges), **how) as serving:
+    with Serving(program.path, file, len(exchanges), **how) as serving:
         for sent, want in exchanges:
             got = serving.ask_slowly(sent, [1] * len(sent)) if is_slow else serving.ask(sent)
-            check(f"{name}, {sent[:80]!r}", got, want)
-        check(f"{name}, the end", serving.end(), served(len(exchanges)))
+            assert got == want, f"{name}, {sent[:80]!r}"
+        assert serving.end() == served(len(exchanges)), f"{name}, the end"
 
 
-def run_posted(room):
-    """Worked examples 14 and 51."""
-    for is_slow in (False, True):
-        file = made(f"{room}/{is_slow}")
-        asked("example 14", file, (POST, ACCEPTED), (POST, AGAIN), is_slow=is_slow)
-        check("example 14, the serial", serial_of(file), 7)
-    asked("example 51", made(f"{room}/51"), (get("/rounds/1/tables/1"), SLIP), (DELETE, NO_DELETE))
+@pytest.mark.parametrize("is_slow", [False, True], ids=["at once", "byte by byte"])
+def test_posted(program, room, made, is_slow):
+    """Worked example 14."""
+    file = made(f"{room}/e.event")
+    asked(program, "example 14", file, (POST, ACCEPTED), (POST, AGAIN), is_slow=is_slow)
+    assert serial_of(file) == 7, "the serial"
+
+
+def test_shown(program, room, made):
+    """Worked example 51."""
+    asked(program, "example 51", made(f"{room}/e.event"), (get("/rounds/1/tables/1"), SLIP), (DELETE, NO_DELETE))
 
 
 def posted(length, body):
     return b"POST /rounds/1/tables/1 HTTP/1.1\r\n" + length + b"\r\n" + body
 
 
-def run_turned_down(room):
+def test_turned_down(program, room, made):
     """Worked example 23. Each leaves the event as it was."""
     cases = [
         (get("/nope"), NOT_FOUND),
@@ -148,26 +147,26 @@ def run_turned_down(room):
     ]
     cut = [(b"", BAD), (b"GET /standings HTTP/1.1\r\nHost: a", BAD), (b"GET /standings HTTP/1.1\r\n", BAD)]
     file = made(f"{room}/e.event")
-    asked("example 23", file, *cases, *cut)
-    asked("example 23, byte by byte", file, *cases, is_slow=True)
-    check("example 23, the serial", serial_of(file), 6)
+    asked(program, "example 23", file, *cases, *cut)
+    asked(program, "example 23, byte by byte", file, *cases, is_slow=True)
+    assert serial_of(file) == 6, "example 23, the serial"
 
 
-def run_two_clients(room):
+def test_two_clients(program, room, made):
     """Worked example 36. Both have sent before either is answered."""
     file = made(f"{room}/e.event")
-    with Serving(program, file, 2) as serving, serving.client() as first, serving.client() as second:
+    with Serving(program.path, file, 2) as serving, serving.client() as first, serving.client() as second:
         sent_to_the_end(second, get("/rounds/1/tables/1"))
         time.sleep(0.05)
         sent_to_the_end(first, POST)
-        check("example 36, the first", received(first), ACCEPTED)
-        check("example 36, the second", received(second), REPORTED_SLIP)
-        check("example 36, the end", serving.end(), served(2))
+        assert received(first) == ACCEPTED, "example 36, the first"
+        assert received(second) == REPORTED_SLIP, "example 36, the second"
+        assert serving.end() == served(2), "example 36, the end"
     with socket.socket() as held:
         held.bind(("127.0.0.1", 0))
         held.listen()
-        status, out, _ = run("serve", file, str(held.getsockname()[1]), "1")
-        check("example 36, a port that is held", (status, out), (3, b""))
+        status, out, _ = program.run("serve", file, str(held.getsockname()[1]), "1")
+        assert (status, out) == (3, b""), "example 36, a port that is held"
 
 
 def headed(size, fields=0):
@@ -176,39 +175,46 @@ def headed(size, fields=0):
     return start + (b"Y: " + b"a" * (size - len(start) - 7) + b"\r\n" if size else b"") + b"\r\n"
 
 
-def run_limits(room):
+# requests at the limits and beyond them, their answers, and the serial after them
+LIMITS = [
+    (headed(8192), STANDINGS, 6),
+    (headed(8193), BAD, 6),
+    (headed(0, 32), STANDINGS, 6),
+    (headed(0, 33), BAD, 6),
+    (posted(b"Content-Length: 4096\r\n", BODY + b" " * 4077), ACCEPTED, 7),
+    (posted(b"Content-Length: 19\r\nContent-Length: 19\r\n", BODY), BAD, 6),
+    (posted(b"Content-Length: 19\r\nTransfer-Encoding: chunked\r\n", BODY), BAD, 6),
+    (posted(b"Content-Length: 25\r\n", b'{"a":2,"b":1,"d":0,"e":0}'), BAD, 6),
+    (posted(b"Content-Length: 21\r\n", b'{"a":2.0,"b":1,"d":0}'), BAD, 6),
+    (posted(b"Content-Length: 21\r\n", b'{"a":256,"b":1,"d":0}'), BAD, 6),
+]
+
+
+@pytest.mark.parametrize("is_slow", [False, True], ids=["at once", "byte by byte"])
+@pytest.mark.parametrize("sent, want, serial", LIMITS, ids=range(len(LIMITS)))
+def test_limits(program, room, made, sent, want, serial, is_slow):
     """Worked example 44, in one piece and byte by byte."""
-    cases = [
-        (headed(8192), STANDINGS, 6),
-        (headed(8193), BAD, 6),
-        (headed(0, 32), STANDINGS, 6),
-        (headed(0, 33), BAD, 6),
-        (posted(b"Content-Length: 4096\r\n", BODY + b" " * 4077), ACCEPTED, 7),
-        (posted(b"Content-Length: 19\r\nContent-Length: 19\r\n", BODY), BAD, 6),
-        (posted(b"Content-Length: 19\r\nTransfer-Encoding: chunked\r\n", BODY), BAD, 6),
-        (posted(b"Content-Length: 25\r\n", b'{"a":2,"b":1,"d":0,"e":0}'), BAD, 6),
-        (posted(b"Content-Length: 21\r\n", b'{"a":2.0,"b":1,"d":0}'), BAD, 6),
-        (posted(b"Content-Length: 21\r\n", b'{"a":256,"b":1,"d":0}'), BAD, 6),
-    ]
-    check("8192 bytes", (len(headed(8192)), len(headed(8193))), (8192, 8193))
-    for number, (sent, want, serial) in enumerate(cases):
-        for is_slow in (False, True):
-            file = made(f"{room}/{number}{is_slow}")
-            # the last byte of a head that is too long is never read
-            shown = sent[:8192] if is_slow and want == BAD else sent
-            asked("example 44", file, (shown, want), is_slow=is_slow)
-            check(f"example 44, {sent[:60]!r}, the serial", serial_of(file), serial)
-    file = made(f"{room}/short")
-    with Serving(program, file, 2) as serving:
+    file = made(f"{room}/e.event")
+    # the last byte of a head that is too long is never read
+    shown = sent[:8192] if is_slow and want == BAD else sent
+    asked(program, "example 44", file, (shown, want), is_slow=is_slow)
+    assert serial_of(file) == serial, "the serial"
+
+
+def test_a_body_that_is_cut(program, room, made):
+    """Worked example 44, its last lines."""
+    assert (len(headed(8192)), len(headed(8193))) == (8192, 8193), "8192 bytes"
+    file = made(f"{room}/e.event")
+    with Serving(program.path, file, 2) as serving:
         short = posted(b"Content-Length: 20\r\n", BODY)
-        check("example 44, a body that is cut", serving.ask(short), BAD)
+        assert serving.ask(short) == BAD, "example 44, a body that is cut"
         with serving.client() as client:
             for at in range(len(short)):
                 client.sendall(short[at : at + 1])
             client.shutdown(socket.SHUT_WR)
-            check("example 44, a body that is cut, byte by byte", received(client), BAD)
-        check("example 44, the end", serving.end(), served(2))
-    check("example 44, a body that is cut, the serial", serial_of(file), 6)
+            assert received(client) == BAD, "example 44, a body that is cut, byte by byte"
+        assert serving.end() == served(2), "example 44, the end"
+    assert serial_of(file) == 6, "example 44, a body that is cut, the serial"
 
 
 def reset(client):
@@ -217,216 +223,209 @@ def reset(client):
     client.close()
 
 
-def run_broken(room):
+def test_broken(program, room, made):
     """Worked example 45, as far as a network shows it: connections that break behind each byte of the request, and before the answer is read."""
     file = made(f"{room}/e.event")
-    with Serving(program, file, len(POST) + 5) as serving:
+    with Serving(program.path, file, len(POST) + 5) as serving:
         for size in range(len(POST)):
             client = serving.client()
             client.sendall(POST[:size])
             reset(client)
-        check("example 45, nothing was submitted", serving.ask(get("/rounds/1/tables/1")), SLIP)
+        assert serving.ask(get("/rounds/1/tables/1")) == SLIP, "example 45, nothing was submitted"
         client = serving.client()
         client.sendall(POST)
         select.select([client], [], [], 20)
         reset(client)
-        check("example 45, the score is stored", serving.ask(POST), AGAIN)
+        assert serving.ask(POST) == AGAIN, "example 45, the score is stored"
         client = serving.client()
         client.sendall(get("/standings"))
         client.close()
-        check("example 45, each counts as served", serving.ask(get("/rounds/1/tables/1")), REPORTED_SLIP)
-        check("example 45, the end", serving.end(), served(len(POST) + 5))
-    check("example 45, the serial", serial_of(file), 7)
+        assert serving.ask(get("/rounds/1/tables/1")) == REPORTED_SLIP, "example 45, each counts as served"
+        assert serving.end() == served(len(POST) + 5), "example 45, the end"
+    assert serial_of(file) == 7, "example 45, the serial"
 
 
 # ---- answers beyond the examples
 
 
-def run_answers(room):
+def test_answers(program, room, made):
     """Each route and refusal."""
     shown = [("/standings", STANDINGS), ("/standings?x=/rounds/1", STANDINGS), ("/rounds/1", PAIRINGS), ("/rounds/001/tables/01", SLIP)]
     missing = [("/rounds/1/tables/3", NO_MATCH), ("/rounds/0", NO_MATCH), ("/rounds/256", NOT_FOUND), ("/rounds/1/", NOT_FOUND)]
-    asked("routes", made(f"{room}/four"), *((get(target), want) for target, want in shown + missing))
+    asked(program, "routes", made(f"{room}/four"), *((get(target), want) for target, want in shown + missing))
     methods = answer("405 Method Not Allowed", '{"error":"method not allowed"}', allow="GET, POST")
-    asked("methods", f"{room}/four", (b"PUT /rounds/1/tables/1 HTTP/1.1\r\n\r\n", methods), (b"HEAD /rounds/1 HTTP/1.0\n\n", NO_DELETE))
+    asked(program, "methods", f"{room}/four", (b"PUT /rounds/1/tables/1 HTTP/1.1\r\n\r\n", methods), (b"HEAD /rounds/1 HTTP/1.0\n\n", NO_DELETE))
     bye = answer("200 OK", '{"first":{"name":"Cy","no":3},"round":1,"score":{"a":2,"b":0,"d":0},"second":null,"table":0}')
     is_bye = answer("409 Conflict", '{"name":"IsBye","refused":16}')
-    asked("a bye", made(f"{room}/bye", WITH_A_BYE), (get("/rounds/1/tables/0"), bye), (POST.replace(b"tables/1", b"tables/0"), is_bye))
+    asked(program, "a bye", made(f"{room}/bye", WITH_A_BYE), (get("/rounds/1/tables/0"), bye), (POST.replace(b"tables/1", b"tables/0"), is_bye))
     not_swiss = answer("409 Conflict", '{"name":"NotSwiss","refused":6}')
     early = [(POST, not_swiss), (get("/rounds/1/tables/1"), NO_MATCH), (get("/rounds/1"), NO_MATCH), (get("/standings"), STANDINGS)]
-    asked("before the start", made(f"{room}/new", FRIDAY[:5]), *early)
+    asked(program, "before the start", made(f"{room}/new", FRIDAY[:5]), *early)
     full = made(f"{room}/full")
     by_sqlite(full, "UPDATE event SET serial = 999999")
     serial_full = answer("409 Conflict", '{"name":"SerialFull","refused":23}')
-    asked("the last serial", full, (POST, serial_full), (POST.replace(b'"b":1', b'"b":2'), BAD_SCORE), (get("/rounds/1/tables/1"), SLIP))
+    asked(program, "the last serial", full, (POST, serial_full), (POST.replace(b'"b":1', b'"b":2'), BAD_SCORE), (get("/rounds/1/tables/1"), SLIP))
     names = made(f"{room}/names", [("init", "Friday", "1", "0"), ("enrol", 'Zoë "Zo" \\'), ("enrol", "大会</b>"), ("start",), ("pair", "1", ZERO)])
     quoted = answer("200 OK", '{"first":{"name":"大会</b>","no":2},"round":1,"score":null,"second":{"name":"Zoë \\"Zo\\" \\\\","no":1},"table":1}')
-    asked("names", names, (get("/rounds/1/tables/1"), quoted))
+    asked(program, "names", names, (get("/rounds/1/tables/1"), quoted))
 
 
-def by_sqlite(file, statement):
-    base = sqlite3.connect(file, isolation_level=None)
-    base.execute(statement)
-    base.close()
-
-
-def run_full_disk(room):
+def test_full_disk(program, room, made):
     """A disk on which nothing can grow from here on: the score isn't stored, and nothing more is answered from that run."""
     file = made(f"{room}/e.event")
     no_store = answer("503 Service Unavailable", '{"name":"Store","refused":25}')
     needs_reopen = answer("503 Service Unavailable", '{"name":"NeedsReopen","refused":26}')
     # Python runs with SIGXFSZ ignored, and the program then does too
-    with Serving(program, file, 6, restore_signals=False) as serving:
-        check("before the disk is full", serving.ask(get("/rounds/1/tables/1")), SLIP)
+    with Serving(program.path, file, 6, restore_signals=False) as serving:
+        assert serving.ask(get("/rounds/1/tables/1")) == SLIP, "before the disk is full"
         resource.prlimit(serving.process.pid, resource.RLIMIT_FSIZE, (0, 0))
-        check("a full disk", serving.ask(POST), no_store)
+        assert serving.ask(POST) == no_store, "a full disk"
         for sent in (POST, get("/standings"), get("/rounds/1/tables/1")):
-            check(f"after a full disk, {sent[:40]!r}", serving.ask(sent), needs_reopen)
-        check("after a full disk, no route", serving.ask(get("/nope")), NOT_FOUND)
-        check("after a full disk, the end", serving.end(), served(6))
-    asked("on a disk with room", file, (POST, ACCEPTED))
+            assert serving.ask(sent) == needs_reopen, f"after a full disk, {sent[:40]!r}"
+        assert serving.ask(get("/nope")) == NOT_FOUND, "after a full disk, no route"
+        assert serving.end() == served(6), "after a full disk, the end"
+    asked(program, "on a disk with room", file, (POST, ACCEPTED))
 
 
 # ---- how the program ends, and what it refuses
 
 
-def run_words(room):
+def test_words(program, room, made):
     """What `serve` refuses, before it listens."""
     missing, file = f"{room}/none", made(f"{room}/e.event")
     for words in (("0", "0"), ("0", "1000001"), ("65536", "1"), ("+1", "1"), ("0", "x"), ("0",), ("0", "1", "1")):
-        status, out, err = run("serve", missing, *words)
-        check(f"serve {words}", (status, out, err.startswith(b"event_reporter: ")), (2, b"", True))
-    check("no such file", run("serve", missing, "0", "1"), due(["refused 27 NoEvent"]))
-    check("no such file, and none is made", os.path.exists(missing), False)
-    check("script", subprocess.run([program], input=b"serve\t0\t1\n", capture_output=True, timeout=60).stdout, b"usage\n")
-    with Serving(program, file, "00001", "000") as serving:
-        check("zeros in front", serving.ask(get("/rounds/1")), PAIRINGS)
-        check("zeros in front, the end", serving.end(), served(1))
-    with Serving(program, file, 1_000_000):
+        status, out, err = program.run("serve", missing, *words)
+        assert (status, out, err.startswith(b"event_reporter: ")) == (2, b"", True), f"serve {words}"
+    assert program.run("serve", missing, "0", "1") == due(["refused 27 NoEvent"]), "no such file"
+    assert not os.path.exists(missing), "no such file, and none is made"
+    assert subprocess.run([program.path], input=b"serve\t0\t1\n", capture_output=True, timeout=PATIENCE).stdout == b"usage\n", "script"
+    with Serving(program.path, file, "00001", "000") as serving:
+        assert serving.ask(get("/rounds/1")) == PAIRINGS, "zeros in front"
+        assert serving.end() == served(1), "zeros in front, the end"
+    with Serving(program.path, file, 1_000_000):
         pass
     with open("/dev/full", "wb") as full:
-        ran = subprocess.run([program, "serve", file, "0", "1"], stdin=subprocess.DEVNULL, stdout=full, stderr=subprocess.PIPE, timeout=60)
-        check("a full output", ran.returncode, 3)
+        ran = subprocess.run([program.path, "serve", file, "0", "1"], stdin=subprocess.DEVNULL, stdout=full, stderr=subprocess.PIPE, timeout=PATIENCE)
+        assert ran.returncode == 3, "a full output"
 
 
-def run_address(room):
+def test_address(program, room, made):
     """It listens on 127.0.0.1 and on no other address of the machine."""
-    with Serving(program, made(f"{room}/e.event"), 1) as serving:
+    with Serving(program.path, made(f"{room}/e.event"), 1) as serving:
         with socket.socket() as other:
-            check("another address", other.connect_ex(("127.0.0.2", serving.port)), errno.ECONNREFUSED)
-        check("127.0.0.1", serving.ask(get("/rounds/1")), PAIRINGS)
-        check("127.0.0.1, the end", serving.end(), served(1))
+            assert other.connect_ex(("127.0.0.2", serving.port)) == errno.ECONNREFUSED, "another address"
+        assert serving.ask(get("/rounds/1")) == PAIRINGS, "127.0.0.1"
+        assert serving.end() == served(1), "127.0.0.1, the end"
 
 
-def run_locked(room):
+def test_locked(program, room, made):
     """The file is held as long as it is served. Two can't serve it, and other command lines wait for the end."""
     file = made(f"{room}/e.event")
-    with Serving(program, file, 2) as serving:
+    with Serving(program.path, file, 2) as serving:
         held = due(["refused 25 Store"])
-        check("held, players", run("players", file), held)
-        check("held, correct", run("correct", file, "1", "1", "2", "0", "0"), held)
-        check("held, serve", run("serve", file, "0", "1"), held)
-        check("held, and served", serving.ask(POST), ACCEPTED)
-        check("held still", run("result", file, "1", "2", "2", "0", "0"), held)
-        check("held, and served again", serving.ask(get("/rounds/1/tables/1")), REPORTED_SLIP)
-        check("held, the end", serving.end(), served(2))
-    check("no longer held", run("result", file, "1", "2", "2", "0", "0"), due(["ok 8"]))
+        assert program.run("players", file) == held, "held, players"
+        assert program.run("correct", file, "1", "1", "2", "0", "0") == held, "held, correct"
+        assert program.run("serve", file, "0", "1") == held, "held, serve"
+        assert serving.ask(POST) == ACCEPTED, "held, and served"
+        assert program.run("result", file, "1", "2", "2", "0", "0") == held, "held still"
+        assert serving.ask(get("/rounds/1/tables/1")) == REPORTED_SLIP, "held, and served again"
+        assert serving.end() == served(2), "held, the end"
+    assert program.run("result", file, "1", "2", "2", "0", "0") == due(["ok 8"]), "no longer held"
 
 
-def run_ended(room):
+def test_ended(program, room, made):
     """Ctrl-C between two requests. It can be served again at once, on the same port."""
     file = made(f"{room}/e.event")
     port = free_port()
-    with Serving(program, file, 100, port, preexec_fn=hear_interrupts) as serving:
-        check("before Ctrl-C", serving.ask(POST), ACCEPTED)
+    with Serving(program.path, file, 100, port, preexec_fn=hear_interrupts) as serving:
+        assert serving.ask(POST) == ACCEPTED, "before Ctrl-C"
         serving.process.send_signal(signal.SIGINT)
-        check("Ctrl-C", serving.end()[:2], (-signal.SIGINT, b""))
-    check("after Ctrl-C", run("result", file, "1", "2", "2", "0", "0"), due(["ok 8"]))
-    asked("after Ctrl-C, the same port", file, (POST, AGAIN), port=port)
+        assert serving.end()[:2] == (-signal.SIGINT, b""), "Ctrl-C"
+    assert program.run("result", file, "1", "2", "2", "0", "0") == due(["ok 8"]), "after Ctrl-C"
+    asked(program, "after Ctrl-C, the same port", file, (POST, AGAIN), port=port)
 
 
-def run_no_connection(room):
+def test_no_connection(program, room, made):
     """Where the system gives no connection, as at its limit on open files, serving ends as on a fault of the device. What was answered is stored."""
     file = made(f"{room}/e.event")
-    with Serving(program, file, 9) as serving:
-        check("before the limit", serving.ask(get("/rounds/1")), PAIRINGS)
+    with Serving(program.path, file, 9) as serving:
+        assert serving.ask(get("/rounds/1")) == PAIRINGS, "before the limit"
         resource.prlimit(serving.process.pid, resource.RLIMIT_NOFILE, (0, 0))
         # a call that waits for a client already has a place for it
         was_answered = serving.ask(POST) == ACCEPTED
-        check("no connection, the end", serving.end(), (3, b"", b""))
-    check("after no connection, the serial", serial_of(file), 7 if was_answered else 6)
+        assert serving.end() == (3, b"", b""), "no connection, the end"
+    assert serial_of(file) == (7 if was_answered else 6), "after no connection, the serial"
 
 
 # ---- clients
 
 
-def run_line(room):
+def test_line(program, room, made):
     """A hundred clients wait while the first one has not sent all, and are then answered in their order. It sends a byte before each of them, since it is
     let go where none comes for a second."""
     file = made(f"{room}/e.event")
     sent = get("/rounds/1").replace(b"\r\n\r\n", b"\r\nX: " + b"a" * 100 + b"\r\n\r\n")
-    with Serving(program, file, 101) as serving:
+    with Serving(program.path, file, 101) as serving:
         first, others = serving.client(), []
         for number in range(100):
             sent_whole(first, sent[number : number + 1])
             others.append(serving.client())
             sent_whole(others[-1], POST if number == 50 else get("/rounds/1/tables/1"))
-        check("while the first one has not sent all", select.select(others, [], [], 0.3)[0], [])
+        assert select.select(others, [], [], 0.3)[0] == [], "while the first one has not sent all"
         sent_whole(first, sent[100:])
-        check("the first one", received(first), PAIRINGS)
+        assert received(first) == PAIRINGS, "the first one"
         answers = [received(client) for client in others]
-        check("a hundred that wait", answers, [SLIP] * 50 + [ACCEPTED] + [REPORTED_SLIP] * 49)
-        check("a hundred that wait, the end", serving.end(), served(101))
+        assert answers == [SLIP] * 50 + [ACCEPTED] + [REPORTED_SLIP] * 49, "a hundred that wait"
+        assert serving.end() == served(101), "a hundred that wait, the end"
         for client in (first, *others):
             client.close()
 
 
-def run_gone(room):
+def test_gone(program, room, made):
     """Clients that connect and go, or send a part and go."""
     file = made(f"{room}/e.event")
-    with Serving(program, file, 5) as serving:
+    with Serving(program.path, file, 5) as serving:
         serving.client().close()
         reset(serving.client())
         with serving.client() as client:
             client.sendall(POST[:40])
         with serving.client() as client:
             client.sendall(POST[:-1])
-        check("after ones that went", serving.ask(POST), ACCEPTED)
-        check("after ones that went, the end", serving.end(), served(5))
+        assert serving.ask(POST) == ACCEPTED, "after ones that went"
+        assert serving.end() == served(5), "after ones that went, the end"
 
 
-def run_gone_in_the_line(room):
+def test_gone_in_the_line(program, room, made):
     """A client that handed its score in, and went before it had its turn: the score is stored or not, and sent again it is taken, or answered with
     itself.
     """
     file = made(f"{room}/e.event")
-    with Serving(program, file, 4) as serving, serving.client() as first:
+    with Serving(program.path, file, 4) as serving, serving.client() as first:
         gone = serving.client()
         sent_to_the_end(gone, POST)
         reset(gone)
         sent_whole(first, get("/rounds/1"))
-        check("before one that went", received(first), PAIRINGS)
+        assert received(first) == PAIRINGS, "before one that went"
         is_stored = serving.ask(get("/rounds/1/tables/1")) == REPORTED_SLIP
-        check("after one that went", serving.ask(POST), AGAIN if is_stored else ACCEPTED)
-        check("after one that went, the end", serving.end(), served(4))
-    check("after one that went, the serial", serial_of(file), 7)
+        assert serving.ask(POST) == (AGAIN if is_stored else ACCEPTED), "after one that went"
+        assert serving.end() == served(4), "after one that went, the end"
+    assert serial_of(file) == 7, "after one that went, the serial"
 
 
-def run_slow_reader(room):
+def test_slow_reader(program, room, made):
     """A client that reads late, and a little at a time, gets the whole of a long answer."""
     names = [f"N{it}" + "x" * 55 for it in range(1, 513)]
-    file = f"{room}/e.event"
-    made(file, [("init", "Friday", "3", "0"), ("enrol", names[0]), ("enrol", names[1])])
+    file = made(f"{room}/e.event", [("init", "Friday", "3", "0"), ("enrol", names[0]), ("enrol", names[1])])
     base = sqlite3.connect(file)
     base.executemany("INSERT INTO player2 VALUES (?, ?, 0, 0)", [(it, name) for it, name in enumerate(names, 1) if it > 2])
     base.executemany("INSERT INTO tally VALUES (?, 0, 0, 0, 0)", [(it,) for it in range(3, len(names) + 1)])
     base.commit()
     base.close()
     want = without_rounds(names)
-    with Serving(program, file, 2) as serving:
+    with Serving(program.path, file, 2) as serving:
         with socket.socket() as client:
             client.setsockopt(socket.SOL_SOCKET, socket.SO_RCVBUF, 2048)
-            client.settimeout(20)
+            client.settimeout(PATIENCE)
             client.connect(("127.0.0.1", serving.port))
             client.sendall(get("/standings"))
             time.sleep(0.3)
@@ -434,12 +433,12 @@ def run_slow_reader(room):
             while more := client.recv(1000):
                 got += more
                 time.sleep(0.001)
-        check("a slow reader", got == want, True)
-        check("a quick one", serving.ask(get("/standings")) == want, True)
-        check("a slow reader, the end", serving.end(), served(2))
+        assert got == want, "a slow reader"
+        assert serving.ask(get("/standings")) == want, "a quick one"
+        assert serving.end() == served(2), "a slow reader, the end"
 
 
-def run_python(room):
+def test_python(program, room, made):
     """Python's own client."""
     file = made(f"{room}/e.event")
     cases = [
@@ -450,31 +449,32 @@ def run_python(room):
         ("GET", "/nope", None, 404, "application/json", b'{"error":"not found"}'),
         ("POST", "/standings", BODY, 405, "application/json", b'{"error":"method not allowed"}'),
     ]
-    with Serving(program, file, len(cases)) as serving:
+    with Serving(program.path, file, len(cases)) as serving:
         for method, target, body, *want in cases:
-            client = http.client.HTTPConnection("127.0.0.1", serving.port, timeout=20)
+            client = http.client.HTTPConnection("127.0.0.1", serving.port, timeout=PATIENCE)
             client.request(method, target, body)
             came = client.getresponse()
-            check(f"http.client, {method} {target}", [came.status, came.getheader("Content-Type"), came.read()], want)
+            assert [came.status, came.getheader("Content-Type"), came.read()] == want, f"http.client, {method} {target}"
             client.close()
-        check("http.client, the end", serving.end(), served(len(cases)))
+        assert serving.end() == served(len(cases)), "http.client, the end"
     large, count = ["POST", "/rounds/1/tables/1", b" " * 1_000_000], 20
-    with Serving(program, file, count) as serving:
+    with Serving(program.path, file, count) as serving:
         for it in range(1, count + 1):
-            client = http.client.HTTPConnection("127.0.0.1", serving.port, timeout=20)
+            client = http.client.HTTPConnection("127.0.0.1", serving.port, timeout=PATIENCE)
             client.request(*large)
             came = client.getresponse()
-            check(f"http.client, a megabyte, {it}", [came.status, came.read()], [413, b'{"error":"body too large"}'])
+            assert [came.status, came.read()] == [413, b'{"error":"body too large"}'], f"http.client, a megabyte, {it}"
             client.close()
-        check("http.client, megabytes, the end", serving.end(), served(count))
+        assert serving.end() == served(count), "http.client, megabytes, the end"
 
 
 def curl(serving, target, *words):
-    ran = subprocess.run(["curl", "-s", "--max-time", "20", *words, f"http://127.0.0.1:{serving.port}{target}"], capture_output=True, timeout=60)
+    ran = subprocess.run(["curl", "-s", "--max-time", str(PATIENCE), *words, f"http://127.0.0.1:{serving.port}{target}"], capture_output=True, timeout=PATIENCE)
     return ran.returncode, ran.stdout
 
 
-def run_curl(room):
+@pytest.mark.needs("requests by curl", command="curl")
+def test_curl(program, room, made):
     """curl, with its head and its body as they came."""
     file, at, to_table = made(f"{room}/e.event"), "/rounds/1/tables/1", ["--data", BODY.decode()]
     cases = [
@@ -492,13 +492,15 @@ def run_curl(room):
         ([], "/rounds/9", NO_MATCH),
         (["-X", "DELETE"], "/standings", NO_DELETE),
     ]
-    with Serving(program, file, len(cases)) as serving:
+    with Serving(program.path, file, len(cases)) as serving:
         for words, target, want in cases:
-            check(f"curl {words} {target}", curl(serving, target, "-i", *words), (0, want))
-        check("curl, the end", serving.end(), served(len(cases)))
+            assert curl(serving, target, "-i", *words) == (0, want), f"curl {words} {target}"
+        assert serving.end() == served(len(cases)), "curl, the end"
 
 
-def run_jq(room):
+@pytest.mark.needs("requests by curl and jq", command="curl")
+@pytest.mark.needs("requests by curl and jq", command="jq")
+def test_jq(program, room, made):
     """jq reads each JSON body."""
     file, at, to_table = made(f"{room}/e.event"), "/rounds/1/tables/1", ["--data", BODY.decode()]
     cases = [
@@ -512,22 +514,9 @@ def run_jq(room):
         (["--data", "{}"], at, ".error", '"bad request"'),
         (["-H", "Content-Length: 5000", "--data", "{}"], at, ".error", '"body too large"'),
     ]
-    with Serving(program, file, len(cases)) as serving:
+    with Serving(program.path, file, len(cases)) as serving:
         for words, target, wish, want in cases:
             _, body = curl(serving, target, *words)
-            ran = subprocess.run(["jq", "-c", wish], input=body, capture_output=True, timeout=60)
-            check(f"jq {wish} of {target}", (ran.returncode, ran.stdout.decode()), (0, want + "\n"))
-        check("jq, the end", serving.end(), served(len(cases)))
-
-
-PARTS = [run_posted, run_turned_down, run_two_clients, run_limits, run_broken, run_answers, run_full_disk, run_words, run_address]
-PARTS += [run_locked, run_ended, run_no_connection, run_line, run_gone, run_gone_in_the_line, run_slow_reader, run_python]
-for tools, parts in ((["curl"], [run_curl]), (["curl", "jq"], [run_jq])):
-    missing = [it for it in tools if not shutil.which(it)]
-    PARTS += [] if missing else parts
-    if missing:
-        left_out(f"requests by {' and '.join(tools)}", f"{missing[0]} is not installed")
-for part in PARTS:
-    with tempfile.TemporaryDirectory() as room:
-        part(room)
-end("slips over HTTP, as the program is built")
+            ran = subprocess.run(["jq", "-c", wish], input=body, capture_output=True, timeout=PATIENCE)
+            assert (ran.returncode, ran.stdout.decode()) == (0, want + "\n"), f"jq {wish} of {target}"
+        assert serving.end() == served(len(cases)), "jq, the end"
