@@ -25,7 +25,8 @@ pairings, standings and playoff of a Magic Swiss tournament
  is one file, and what was answered `ok' is in it after a crash.
  .
  event-desk is a prompt for the scorekeeper. event-sheets makes pages to print
- and a board for the screen.
+ and a board for the screen. event-check is a second reading of the rules, by
+ which anybody can check an event.
  .
  Each function of the program is proved to meet its contract. The file PROVED
  says which commit this is, and what was proved. The processor must have SSE4.2

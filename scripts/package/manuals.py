@@ -1,7 +1,7 @@
 """Makes the man pages of the companions from what they say with --help, or says which page is not as it would be made.
 
     python3 -B -m scripts.package.manuals           compares
-    python3 -B -m scripts.package.manuals --write   writes extras/event-desk.1, event-sheets.1 and event-phones.1
+    python3 -B -m scripts.package.manuals --write   writes event-desk.1, event-sheets.1, event-phones.1 and event-check.1 into extras/man
 """
 import argparse
 import importlib
@@ -13,7 +13,7 @@ from scripts import TOP
 
 sys.path.insert(0, f"{TOP}/extras")
 # the module of each companion that reads its command line
-COMPANIONS = ("companions.prompt.main", "companions.sheets.main", "companions.phones.main")
+COMPANIONS = ("companions.prompt.main", "companions.sheets.main", "companions.phones.main", "scripts.models.event_check")
 
 
 def escaped(text):
@@ -67,7 +67,7 @@ def pages():
     """Each page by its path in the checkout."""
     modules = [importlib.import_module(name) for name in COMPANIONS]
     names = [module.COMMAND for module in modules]
-    return {f"extras/{it.COMMAND}.1": page(it, [name for name in names if name != it.COMMAND]) for it in modules}
+    return {f"extras/man/{it.COMMAND}.1": page(it, [name for name in names if name != it.COMMAND]) for it in modules}
 
 
 def read(path):

@@ -1,0 +1,13 @@
+# Completes the words of event-phones in fish.
+complete -c event-phones -s h -l help -d 'what there is'
+complete -c event-phones -l version -d 'the version of the program that is called'
+complete -c event-phones -l program -r -F -d 'the event_reporter to call'
+complete -c event-phones -l at -x -d 'the address on the slips'
+complete -c event-phones -l listen -x -d 'where to listen'
+complete -c event-phones -l behind-proxy -d 'a proxy on this machine hands requests on'
+complete -c event-phones -l both -d 'a score is stored once both seats say it'
+complete -c event-phones -l one -d 'a score is stored once a phone says it'
+complete -c event-phones -l from-one -x -d 'connections of one address'
+complete -c event-phones -l desk -x -d 'the port of the page of the scorekeeper'
+complete -c event-phones -l clock -x -d 'start a clock of so many minutes'
+complete -c event-phones -l title -x -d 'the heading'

@@ -1,0 +1,13 @@
+# Completes the words of event-sheets in fish.
+complete -c event-sheets -s h -l help -d 'what there is'
+complete -c event-sheets -l version -d 'the version of the program that is called'
+complete -c event-sheets -l program -r -F -d 'the event_reporter to call'
+complete -c event-sheets -l round -x -d 'the round whose pairings and slips are shown'
+complete -c event-sheets -l board -d 'for a screen'
+complete -c event-sheets -s o -l output -r -F -d 'write the page to this file, once it is whole'
+complete -c event-sheets -l watch -r -F -d 'write the page to this file, again and again'
+complete -c event-sheets -l parts -x -a 'players draw tables names slips standings bracket final seats links champion' -d 'these parts alone'
+complete -c event-sheets -l tables -x -d 'the slips of these tables alone'
+complete -c event-sheets -l players -x -d 'the links of these players alone'
+complete -c event-sheets -l by -x -a 'last first' -d 'lists by the last or the first name'
+complete -c event-sheets -l title -x -d 'what to head the sheets with'
