@@ -4,7 +4,7 @@ from __future__ import annotations
 import argparse
 import re
 import subprocess
-from typing import Any, FrozenSet
+from typing import Any
 
 from companions.clock import MOST_MINUTES
 from companions.program import program_beside
@@ -65,10 +65,14 @@ def address_word(text: str) -> str:
         raise argparse.ArgumentTypeError(
             f"{text!r} is no address, as http://192.168.1.10:8080 or https://scores.example.org"
         )
+    if found[3]:
+        port_word(found[3][1:])
+    if found[2] in ("0.0.0.0", "[::]"):
+        raise argparse.ArgumentTypeError(f"{found[2]} is all addresses at once: name the one of the phones")
     return found[1]
 
 
-def tables_word(text: str) -> FrozenSet[int]:
+def tables_word(text: str) -> frozenset[int]:
     if not re.fullmatch("[0-9]{1,3}(,[0-9]{1,3})*", text):
         raise argparse.ArgumentTypeError(f"{text!r} are no tables, as 4 or 4,17")
     return frozenset(map(int, text.split(",")))

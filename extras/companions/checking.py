@@ -13,20 +13,18 @@ from typing import Iterator, Optional
 from companions.copies import Copies, Copy
 from companions.keys import Keys
 from companions.lists import Matches, Rounds, pairings_of
-from companions.program import FAULTS, Declined, OverFile, Source
+from companions.program import FAULTS, Source
 
 
 @contextlib.contextmanager
-def opened(source: Source, copy: Copy) -> Iterator[OverFile]:
+def opened(source: Source, copy: Copy) -> Iterator[Source]:
     """The copy under another name, so that no log is left beside it, and nothing that is done changes it."""
-    if not isinstance(source, OverFile):
-        raise Declined("A copy is opened by command lines alone.")
     with tempfile.TemporaryDirectory() as room:
         path = os.path.join(room, "copy.event")
         for log in ("-wal", ""):
             if os.path.exists(copy.path + log):
                 shutil.copyfile(copy.path + log, path + log)
-        yield OverFile(source.program, path)
+        yield Source(source.program, path)
 
 
 def paired_copy(source: Source, copy: Copy, number: int, key: str) -> Matches:
@@ -88,7 +86,7 @@ def keys_of(keys: Keys, number: int) -> list[str]:
 
 
 def seats_of(rounds: Rounds) -> list[list[tuple[int, int, int]]]:
-    return [[(match.place, match.first, match.second) for match in matches] for matches in rounds]
+    return [[match.seats for match in matches] for matches in rounds]
 
 
 def standings_after(

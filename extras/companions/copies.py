@@ -10,6 +10,7 @@ import time
 from dataclasses import dataclass
 from typing import Optional
 
+from companions.draws import Draws
 from companions.files import copy_synced, exchange, has_log, move, remove_with_log, time_stamp
 from companions.holding import held_by_nobody
 from companions.lists import Players
@@ -117,14 +118,27 @@ class Copies:
         os.makedirs(self.folder, exist_ok=True)
         number, when = self.next_name().split("-", 1)
         path = os.path.join(self.folder, f"{number}-{when}-before-{what}.event")
-        return self.made(Copy(int(number), when, f"before-{what}", path))
+        copy = self.made(Copy(int(number), when, f"before-{what}", path))
+        self.keep_draws()
+        return copy
 
     def make_by_hand(self) -> Copy:
         """The same into a folder of its own, under the file's own name."""
         number, when = self.next_name().split("-", 1)
         folder = os.path.join(self.folder, f"{number}-{when}-copy")
         os.makedirs(folder)
-        return self.made(Copy(int(number), when, "copy", os.path.join(folder, os.path.basename(self.file))))
+        copy = self.made(Copy(int(number), when, "copy", os.path.join(folder, os.path.basename(self.file))))
+        self.keep_draws()
+        Draws(self.file).copy_to(Draws(copy.path).folder)
+        return copy
+
+    @property
+    def draws(self) -> str:
+        """What was drawn lies among the copies too, once for all of them, since a number is for good."""
+        return os.path.join(self.folder, "draws")
+
+    def keep_draws(self) -> None:
+        Draws(self.file).copy_to(self.draws)
 
     def made(self, copy: Copy) -> Copy:
         for _ in range(MOST_TRIES):

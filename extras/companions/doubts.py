@@ -4,21 +4,21 @@ A doubt ends when its match gets another score, or when the same one is entered 
 """
 from __future__ import annotations
 
-import os
 import re
 from dataclasses import dataclass, replace
 
-from companions.files import sync_folder
+from companions.files import write_whole
 from companions.lists import Match, Rounds
+from companions.score import Score
 
-LINE = re.compile(r"^round (\d+) table (\d+) score (\d+-\d+-\d+)$", re.M)
+LINE = re.compile(r"^round (\d+) table (\d+) score ([0-9]{1,9}-[0-9]{1,9}-[0-9]{1,9})$", re.M)
 
 
 @dataclass(frozen=True, order=True)
 class Doubt:
     number: int
     table: int
-    score: str
+    score: Score
 
     def line(self) -> str:
         return f"round {self.number} table {self.table} score {self.score}\n"
@@ -39,7 +39,7 @@ class Doubts:
                 lines = LINE.findall(doubts.read())
         except FileNotFoundError:
             return []
-        return sorted({Doubt(int(number), int(table), score) for number, table, score in lines})
+        return sorted({Doubt(int(number), int(table), Score.parse(score)) for number, table, score in lines})
 
     def standing(self, rounds: Rounds) -> list[Doubt]:
         return [doubt for doubt in self.all() if doubt.stands(rounds)]
@@ -56,15 +56,7 @@ class Doubts:
         return [doubt for doubt in self.all() if (doubt.number, doubt.table) != (number, table)]
 
     def write(self, doubts: list[Doubt]) -> None:
-        beside = f"{self.path}.part"
-        with open(beside, "w", encoding="utf-8") as written:
-            written.writelines(doubt.line() for doubt in sorted(doubts))
-            written.flush()
-            os.fsync(written.fileno())
-        os.replace(beside, self.path)
-        if not doubts:
-            os.unlink(self.path)
-        sync_folder(os.path.dirname(os.path.abspath(self.path)))
+        write_whole(self.path, "".join(doubt.line() for doubt in sorted(doubts)))
 
 
 def with_doubts(rounds: Rounds, doubts: list[Doubt]) -> Rounds:
@@ -72,6 +64,6 @@ def with_doubts(rounds: Rounds, doubts: list[Doubt]) -> Rounds:
     doubted = {(doubt.number, doubt.table) for doubt in doubts if doubt.stands(rounds)}
 
     def shown(number: int, match: Match) -> Match:
-        return replace(match, score="") if (number, match.place) in doubted else match
+        return replace(match, score=None) if (number, match.place) in doubted else match
 
     return [[shown(number, match) for match in matches] for number, matches in enumerate(rounds, 1)]

@@ -4,12 +4,14 @@ from __future__ import annotations
 import enum
 from dataclasses import dataclass, replace
 from functools import cached_property
-from typing import Optional, Tuple
+from typing import Optional
 
 from companions.doubts import Doubts, with_doubts
-from companions.lists import Bracket, Match, Matches, Player, Players, Rounds, Standing, players_in
-from companions.names import visible
+from companions.lists import Bracket, Match, Matches, Player, Players, Rounds, Standing
+from companions.names import sort_key, visible
+from companions.plan import Plan, plan_of
 from companions.program import FAULTS, Source
+from companions.score import Score
 from companions.shown_names import ShownNames
 
 
@@ -31,7 +33,7 @@ class Progress:
     """
 
     number: int = 0
-    seats: Tuple[Tuple[int, int, int], ...] = ()
+    seats: tuple[tuple[int, int, int], ...] = ()
     is_cut: bool = False
     inode: int = 0
 
@@ -44,13 +46,18 @@ class Event:
 
     @cached_property
     def enrolled(self) -> Players:
-        """The players under the names that the program has. Over HTTP they stand in the standings alone."""
-        return players_in(self.listed) if self.source.is_served else self.source.players()
+        """The players under the names that the program has."""
+        return self.source.players()
 
     @cached_property
     def players(self) -> Players:
         """The same under the names by which they are shown."""
         return ShownNames(self.file).shown(self.enrolled) if self.file else self.enrolled
+
+    @cached_property
+    def by_name(self) -> list[Player]:
+        """The players as people look them up."""
+        return sorted(self.players.values(), key=lambda player: sort_key(player.name))
 
     @cached_property
     def rounds(self) -> Rounds:
@@ -75,6 +82,11 @@ class Event:
         players = self.players
         return [replace(standing, player=players[standing.player.number]) for standing in self.listed]
 
+    @cached_property
+    def plan(self) -> Optional[Plan]:
+        """How many rounds there are, and how many go on to the playoff; None if that can't be read."""
+        return plan_of(self.file, self.source.turn) if self.file else None
+
     @property
     def stages(self) -> Rounds:
         return self.bracket.stages
@@ -93,10 +105,8 @@ class Event:
             return Phase.FINISHED
         if self.stages:
             return Phase.PLAYOFF
-        # a round without a bracket is of the Swiss rounds; over HTTP no bracket is handed out
-        if (self.rounds and not self.source.is_served) or self.source.is_swiss():
-            return Phase.SWISS
-        return Phase.PLAYOFF if self.rounds else Phase.ENROLLING
+        # a round without a bracket is of the Swiss rounds
+        return Phase.SWISS if self.rounds or self.source.is_swiss() else Phase.ENROLLING
 
     @cached_property
     def is_all_paired(self) -> bool:
@@ -105,9 +115,9 @@ class Event:
     @property
     def progress(self) -> Progress:
         stamp = self.source.stamp()
-        seats = tuple((match.place, match.first, match.second) for match in self.newest())
+        seats = tuple(match.seats for match in self.newest())
         is_cut = not self.open_tables() and bool(self.stages)
-        return Progress(len(self.rounds), seats, is_cut, stamp[0] if stamp else 0)
+        return Progress(len(self.rounds), seats, is_cut, stamp.inode if stamp else 0)
 
     def read(self) -> tuple[Players, Rounds, Bracket]:
         """All that the file has, asked now: the enrolled names, as a copy has no others."""
@@ -133,19 +143,19 @@ class Event:
     def slot(self, stage: int, slot: str) -> Optional[Match]:
         return found_in(self.stages, stage, slot)
 
-    def score_at(self, number: int, table: str) -> str:
+    def score_at(self, number: int, table: str) -> Optional[Score]:
         found = self.match(number, table)
-        return found.score if found else ""
+        return found.score if found else None
 
-    def score_in(self, stage: int, slot: str) -> str:
+    def score_in(self, stage: int, slot: str) -> Optional[Score]:
         found = self.slot(stage, slot)
-        return found.score if found else ""
+        return found.score if found else None
 
     def named(self, name: str) -> Optional[Player]:
         """The player who was enrolled so."""
         return next((player for player in self.enrolled.values() if player.name == name), None)
 
-    def shown(self, match: Match, score: str = "") -> str:
+    def shown(self, match: Match, score: Optional[Score] = None) -> str:
         """Both names, and the score between them, or a hyphen."""
         second = "bye" if match.is_bye else shown_player(self.players[match.second])
         return f"{shown_player(self.players[match.first])} {score or match.score or '-'} {second}"

@@ -46,7 +46,7 @@ def playoff_csv(event: Event) -> str:
                     match.place,
                     match.first,
                     match.second,
-                    *(match.score.split("-") if match.score else ("", "", "")),
+                    *(match.score or ("", "", "")),
                 )
             )
     return csv_of(("stage", "slot", "a", "b", "x", "y", "d"), rows)
@@ -59,8 +59,8 @@ class Ranked:
 
 
 def loser_of(match: Match) -> int:
-    first, second, _ = (int(games) for games in match.score.split("-"))
-    return match.second if first > second else match.first
+    assert match.score, "a stage before the champion is played"
+    return match.second if match.score.first > match.score.second else match.first
 
 
 def final_ranking(event: Event) -> list[Ranked]:

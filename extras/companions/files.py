@@ -27,14 +27,46 @@ def sync_folder(folder: str) -> None:
             os.close(handle)
 
 
+def write_whole(path: str, text: str) -> None:
+    """What has the name is the old text or the new one. Without a text the file goes."""
+    beside = f"{path}.part"
+    with open(beside, "w", encoding="utf-8") as written:
+        written.write(text)
+        written.flush()
+        os.fsync(written.fileno())
+    os.replace(beside, path)
+    if not text:
+        os.unlink(path)
+    sync_folder(os.path.dirname(os.path.abspath(path)))
+
+
 def copy_synced(source: str, target: str) -> None:
     """Copies a file. What has the target's name is whole and on the disk."""
+    move(part_synced(source, target), target)
+
+
+def replace_synced(source: str, target: str) -> None:
+    """The same where a file may have the target's name already: it is the old one or the new one."""
+    os.replace(part_synced(source, target), target)
+    sync_folder(os.path.dirname(target))
+
+
+def part_synced(source: str, target: str) -> str:
     part = f"{target}.part"
     with open(source, "rb") as read, open(part, "wb") as written:
         shutil.copyfileobj(read, written)
         written.flush()
         os.fsync(written.fileno())
-    move(part, target)
+    return part
+
+
+def copy_folder_synced(source: str, target: str) -> None:
+    """Copies the files of a folder, but for those that are just being written."""
+    os.makedirs(target)
+    for name in sorted(os.listdir(source)):
+        if not name.endswith(".part"):
+            copy_synced(os.path.join(source, name), os.path.join(target, name))
+    sync_folder(target)
 
 
 def move(source: str, target: str) -> None:

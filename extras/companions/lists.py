@@ -7,6 +7,8 @@ import re
 from dataclasses import dataclass, field
 from typing import Dict, Iterator, List, Optional
 
+from companions.score import Score
+
 Row = Dict[str, str]
 
 
@@ -19,6 +21,8 @@ class Player:
     number: int
     name: str
     has_dropped: bool
+    # the last name, if a list has told it
+    last: str = ""
 
 
 @dataclass(frozen=True)
@@ -28,7 +32,12 @@ class Match:
     place: int
     first: int
     second: int
-    score: str
+    score: Optional[Score] = None
+
+    @property
+    def seats(self) -> tuple[int, int, int]:
+        """Its place, and who sits there."""
+        return self.place, self.first, self.second
 
     @property
     def is_bye(self) -> bool:
@@ -36,10 +45,14 @@ class Match:
 
     @property
     def is_open(self) -> bool:
-        return not self.score
+        return self.score is None
 
     def has(self, number: int) -> bool:
         return number in (self.first, self.second)
+
+    def opponent_of(self, number: int) -> int:
+        """0 in a bye."""
+        return self.second if number == self.first else self.first
 
 
 @dataclass(frozen=True)
@@ -57,6 +70,11 @@ class Standing:
 Players = Dict[int, Player]
 Matches = List[Match]
 Rounds = List[List[Match]]
+
+
+def matches_by_player(matches: Matches) -> dict[int, Match]:
+    """The match of each player who sits in a round."""
+    return {number: match for match in matches for number in (match.first, match.second) if number}
 
 
 @dataclass(frozen=True)
@@ -112,9 +130,12 @@ def whole(text: str) -> int:
     return int(text)
 
 
-def score_of(cell: str) -> str:
+def score_of(cell: str) -> Optional[Score]:
     """The score in a column of a text, where a lone hyphen stands for none."""
-    return "" if cell == "-" else cell
+    try:
+        return None if cell == "-" else Score.parse(cell)
+    except ValueError as fault:
+        raise Unreadable(str(fault)) from None
 
 
 def pairings_of(text: str) -> Matches:
@@ -133,12 +154,6 @@ def standings_of(text: str) -> list[Standing]:
     return [
         standing_of(row) for row in rows_of_text(text, "Rank", "No", "Pts", "OMW", "GWP", "OGW", "D", "Name")
     ]
-
-
-def players_in(standings: list[Standing]) -> Players:
-    """The players of the standings, by number."""
-    players = sorted((standing.player for standing in standings), key=lambda player: player.number)
-    return {player.number: player for player in players}
 
 
 def bracket_of(text: str) -> Bracket:
@@ -194,7 +209,7 @@ def players_of(text: str) -> Players:
 def rounds_of(text: str) -> Rounds:
     rounds: Rounds = []
     for row in rows_of_csv(text, "round", "table", "a", "b", "x", "y", "d"):
-        score = f"{row['x']}-{row['y']}-{row['d']}" if row["x"] else ""
+        score = Score(whole(row["x"]), whole(row["y"]), whole(row["d"])) if row["x"] else None
         add_to(
             rounds, whole(row["round"]), Match(whole(row["table"]), whole(row["a"]), whole(row["b"]), score)
         )

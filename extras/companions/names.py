@@ -3,8 +3,9 @@ from __future__ import annotations
 
 import re
 import unicodedata
+from dataclasses import dataclass
 from functools import lru_cache
-from typing import Callable, Iterable, List, Tuple, TypeVar
+from typing import Callable, Iterable, Tuple, TypeVar
 
 # marks by which a name could turn what stands beside it
 TURNING = set("\u202a\u202b\u202c\u202d\u202e\u2066\u2067\u2068\u2069\u200e\u200f\u061c")
@@ -20,7 +21,12 @@ SPELT = str.maketrans({
 APOSTROPHES = "'`\u00b4\u2018\u2019\u201b\u2032\u02b9\u02bb\u02bc\u02bd\u02be\u02bf"
 MINUS, MIDDLE_DOT = "\u2212", "\u00b7"
 
-SortKey = Tuple[str, str]
+# what tells two of one name apart, as (Owls), stands after the name
+TOLD_APART = re.compile(r"(.*\S)\s+(\([^()]*\))", re.S)
+WITH_COMMA = re.compile(r"([^,]*[^\s,]),\s+([^,]*[^\s,])", re.S)
+LAST_WORD = re.compile(r"(.*\S)\s+(\S+)", re.S)
+
+SortKey = Tuple[str, ...]
 Thing = TypeVar("Thing")
 
 
@@ -85,7 +91,7 @@ def plain_name(name: str) -> str:
 
 
 @lru_cache(maxsize=4096)
-def words_of(name: str) -> Tuple[str, ...]:
+def words_of(name: str) -> tuple[str, ...]:
     """The words that may be typed for a name. Lima-Sato is one word, and two."""
     parts = re.findall(r"\w+", unicodedata.normalize("NFC", name))
     return *plain_name(name).split(), *map(plain, parts)
@@ -96,7 +102,44 @@ def sort_key(name: str) -> SortKey:
     return plain_name(name), name
 
 
-def found_by(part: str, things: Iterable[Thing], name_of: Callable[[Thing], str]) -> List[Thing]:
+@dataclass(frozen=True)
+class Listed:
+    """A name as lists by last name have it: what leads, and what follows on it."""
+
+    leads: str
+    follows: str = ""
+
+    @property
+    def key(self) -> SortKey:
+        return plain_name(self.leads), plain_name(self.follows), self.leads, self.follows
+
+    @property
+    def letter(self) -> str:
+        """Under which letter people look for it."""
+        return plain_name(self.leads)[:1].upper()
+
+
+@lru_cache(maxsize=4096)
+def listed(name: str, last: str = "") -> Listed:
+    """By the last name, if a list has told it; else the last word leads, if it has a letter. A name with one
+    comma is listed so already.
+    """
+    told = TOLD_APART.fullmatch(name)
+    whole, beside = (told[1], f" {told[2]}") if told else (name, "")
+    if last and whole.endswith(f" {last}"):
+        return Listed(last, whole[: -len(last)].rstrip() + beside)
+    if last and whole.startswith(f"{last} "):
+        return Listed(last, whole[len(last) :].lstrip() + beside)
+    with_comma = WITH_COMMA.fullmatch(whole)
+    if with_comma:
+        return Listed(with_comma[1], with_comma[2] + beside)
+    words = LAST_WORD.fullmatch(whole)
+    if words and any(map(str.isalpha, words[2])):
+        return Listed(words[2], words[1] + beside)
+    return Listed(name)
+
+
+def found_by(part: str, things: Iterable[Thing], name_of: Callable[[Thing], str]) -> list[Thing]:
     """Those in whose name each typed word is, in whatever order they were typed. The name itself comes first,
     then names that begin so, then those with words that begin so, and then those that only hold it.
     """
@@ -109,7 +152,7 @@ def found_by(part: str, things: Iterable[Thing], name_of: Callable[[Thing], str]
     return sorted(found, key=lambda thing: how_far_off(name_of(thing), whole, typed))
 
 
-def how_far_off(name: str, whole: str, typed: List[str]) -> int:
+def how_far_off(name: str, whole: str, typed: list[str]) -> int:
     if plain_name(name) == whole:
         return 0
     if plain_name(name).startswith(whole):

@@ -1,48 +1,38 @@
-"""Calls of the program: by command lines over the event's file, or over HTTP while `serve` holds it."""
+"""Calls of the program, by command lines over the event's file."""
 from __future__ import annotations
 
-import abc
 import enum
-import json
 import os
 import re
 import shutil
 import subprocess
 import time
-from typing import Callable, Optional, Tuple, TypeVar, Union
+from typing import Callable, NamedTuple, Optional, TypeVar, Union
 
 from companions.lists import (
     Bracket,
-    Matches,
     Players,
     Rounds,
     Standing,
     Unreadable,
     bracket_of,
     pairings_of,
-    players_in,
     players_of,
     rounds_of,
     standings_of,
 )
 from companions.names import visible
+from companions.score import Score
 from companions.turn import Turn
 
 # another program may have the file for a moment, a board that reads it above all
 MOST_TRIES = 6
 SECONDS_BETWEEN_TRIES = 0.2
-SECONDS_FOR_AN_ANSWER = 40
-# no event has more; what goes on answering is another server
+# no event has more
 MOST_ROUNDS = 12
-LONGEST_ANSWER = 1_000_000
 
-Score = Tuple[str, str, str]
 Kind = TypeVar("Kind")
-# what changes with each command, or None where nothing tells of one
-Stamp = Optional[Tuple[int, ...]]
 PLAYERS, RESULTS = ("export", "players"), ("export", "results")
-# the place of the file's time in a stamp
-TIME_OF_STAMP = 2
 
 
 class Refusal(enum.IntEnum):
@@ -106,10 +96,6 @@ class Declined(Exception):
     """It wasn't done, and this is what is said."""
 
 
-class Unreached(Declined):
-    """Nothing answers at the port."""
-
-
 class NoAnswer(Exception):
     """The program ended, or the connection did, without an answer."""
 
@@ -164,82 +150,43 @@ def ready(program: str) -> str:
     raise Declined(f"{program} does not run. Name the program by --program PATH.")
 
 
-class Source(abc.ABC):
-    """Where an event is asked: the program, over its file or as it serves."""
+class Stamp(NamedTuple):
+    """What changes with each command: one ends by writing the file, and while `serve` holds it the log
+    grows.
+    """
 
-    is_served: bool
-    # whether its stamp changes with each command
-    tells_of_commands: bool
-    # what answers, as people are told
-    named: str
-    turn: Turn
+    inode: int
+    size: int
+    # of the last change, in nanoseconds
+    time: int
+    log_size: int
 
-    def understood(self, reader: Callable[[str], Kind], text: str) -> Kind:
-        """What a text or a list says."""
-        try:
-            return reader(text)
-        except Unreadable as fault:
-            raise Declined(
-                f"{self.named} is not event_reporter, or its answer was cut off: {fault}."
-            ) from None
-
-    @abc.abstractmethod
-    def ask(self, name: str, *words: str) -> str:
-        """What the program prints to a command line."""
-
-    def send(self, name: str, *words: str) -> str:
-        """The answer to a command."""
-        return self.ask(name, *words)
-
-    @abc.abstractmethod
-    def text(self, name: str, *words: str) -> str:
-        """A text that is shown as it is."""
-
-    @abc.abstractmethod
-    def report(self, number: int, table: str, score: Score) -> str:
-        """Hands in a result."""
-
-    @abc.abstractmethod
-    def players(self) -> Players: ...
-
-    @abc.abstractmethod
-    def rounds(self) -> Rounds: ...
-
-    @abc.abstractmethod
-    def bracket(self) -> Bracket: ...
-
-    @abc.abstractmethod
-    def standings(self) -> list[Standing]: ...
-
-    @abc.abstractmethod
-    def is_swiss(self) -> bool: ...
-
-    @abc.abstractmethod
-    def is_all_paired(self) -> bool: ...
-
-    @abc.abstractmethod
-    def stamp(self) -> Stamp:
-        """What changes with each command, or None where nothing tells of one."""
+    @property
+    def is_exact(self) -> bool:
+        """Whether it tells of each command. Some file systems have times in whole seconds, in which two may
+        come.
+        """
+        return self.time % 1_000_000_000 != 0
 
 
 class Kept:
     """What the program said, for as long as the file's stamp stays: no command came since."""
 
     def __init__(self) -> None:
-        self.texts: dict[tuple[str, ...], tuple[Stamp, str]] = {}
+        self.texts: dict[tuple[str, ...], tuple[Optional[Stamp], str]] = {}
         # all rounds but the newest
-        self.older: tuple[Stamp, Rounds] = (None, [])
+        self.older: tuple[Optional[Stamp], Rounds] = (None, [])
         self.serial = -1
 
-    def text(self, words: tuple[str, ...], stamp: Stamp) -> Optional[str]:
+    def text(self, words: tuple[str, ...], stamp: Optional[Stamp]) -> Optional[str]:
         kept_at, text = self.texts.get(words, (None, ""))
-        return text if is_exact(stamp) and kept_at == stamp else None
+        return text if stamp and stamp.is_exact and kept_at == stamp else None
 
-    def older_rounds(self, stamp: Stamp) -> Optional[Rounds]:
+    def older_rounds(self, stamp: Optional[Stamp]) -> Optional[Rounds]:
         kept_at, older = self.older
-        return older if is_exact(stamp) and kept_at == stamp else None
+        return older if stamp and stamp.is_exact and kept_at == stamp else None
 
-    def keep(self, words: tuple[str, ...], stamp: Stamp, text: str) -> None:
+    def keep(self, words: tuple[str, ...], stamp: Optional[Stamp], text: str) -> None:
         self.texts[words] = stamp, text
 
     def forget(self, serial: int = -1) -> None:
@@ -247,7 +194,7 @@ class Kept:
         self.texts.clear()
         self.older, self.serial = (None, []), serial
 
-    def carry(self, serial: int, before: Stamp, after: Stamp) -> None:
+    def carry(self, serial: int, before: Optional[Stamp], after: Optional[Stamp]) -> None:
         """A result was taken. It changes no player and no older round, and where it is the next command after
         the one before, nobody else changed them.
         """
@@ -260,23 +207,22 @@ class Kept:
             self.older = after, older
 
 
-def is_exact(stamp: Stamp) -> bool:
-    """Whether a stamp tells of each command. Some file systems have times in whole seconds, in which two may
-    come.
-    """
-    return stamp is not None and stamp[TIME_OF_STAMP] % 1_000_000_000 != 0
-
-
-class OverFile(Source):
-    """Asks the program by command lines."""
-
-    is_served = False
-    tells_of_commands = True
+class Source:
+    """Where an event is asked: the program, by command lines over the event's file."""
 
     def __init__(self, program: str, file: str, turn: Optional[Turn] = None, most_tries: int = MOST_TRIES):
         self.program, self.file, self.most_tries = program, os.path.abspath(file), most_tries
-        self.named, self.turn = program, turn or Turn()
+        self.turn = turn or Turn()
         self.kept = Kept()
+
+    def understood(self, reader: Callable[[str], Kind], text: str) -> Kind:
+        """What a text or a list says."""
+        try:
+            return reader(text)
+        except Unreadable as fault:
+            raise Declined(
+                f"{self.program} is not event_reporter, or its answer was cut off: {fault}."
+            ) from None
 
     def ask(self, name: str, *words: str) -> str:
         """What the program prints. It runs in a session of its own, so that no Ctrl-C reaches it."""
@@ -348,12 +294,14 @@ class OverFile(Source):
         raise Declined("The program took what no rule takes. Is it event_reporter?")
 
     def text(self, name: str, *words: str) -> str:
+        """A text that is shown as it is."""
         return self.read(name, *words)
 
     def report(self, number: int, table: str, score: Score) -> str:
+        """Hands in a result."""
         before = self.stamp()
         try:
-            answer = self.ask("result", str(number), table, *score)
+            answer = self.ask("result", str(number), table, *score.words)
         except FAULTS:
             self.kept.forget()
             raise
@@ -387,132 +335,16 @@ class OverFile(Source):
         """Nobody has an empty name, which is refused 1, but 9 once all rounds are paired."""
         return self.refusal("enrol", "") == Refusal.ALL_ROUNDS_PAIRED
 
-    def stamp(self) -> Stamp:
-        """What changes with each command: one ends by writing the file, and while `serve` holds it the log
-        grows.
-        """
+    def stamp(self) -> Optional[Stamp]:
+        """None if there is no file."""
         try:
             status = os.stat(self.file)
         except OSError:
             return None
-        return status.st_ino, status.st_size, status.st_mtime_ns, self.log_size()
+        return Stamp(status.st_ino, status.st_size, status.st_mtime_ns, self.log_size())
 
     def log_size(self) -> int:
         try:
             return os.path.getsize(f"{self.file}-wal")
         except OSError:
             return 0
-
-
-class OverPort(Source):
-    """Asks the program as it serves, over HTTP on this machine."""
-
-    is_served = True
-    tells_of_commands = False
-    PATHS = {"standings": "/standings", "slips": "/rounds/"}
-
-    def __init__(self, port: int):
-        self.port, self.named, self.turn = port, f"What answers at port {port}", Turn()
-        self.known: Rounds = []
-
-    def exchanged(self, method: str, target: str, body: Optional[str] = None) -> tuple[int, str]:
-        # here, since it takes a third of the start, and --port alone needs it
-        import http.client
-
-        connection = http.client.HTTPConnection("127.0.0.1", self.port, timeout=SECONDS_FOR_AN_ANSWER)
-        try:
-            connection.request(method, target, body)
-            answer = connection.getresponse()
-            return answer.status, answer.read(LONGEST_ANSWER).decode("utf-8", "replace")
-        except (OSError, http.client.HTTPException):
-            raise NoAnswer from None
-        finally:
-            connection.close()
-
-    def got(self, target: str) -> str:
-        try:
-            status, text = self.exchanged("GET", target)
-        except NoAnswer:
-            raise Unreached(f"No answer at port {self.port}. Is `serve` running, and at this port?") from None
-        if status != 200:
-            raise self.fault(status, text)
-        return text
-
-    def newest(self, number: int) -> Matches:
-        """The round of this number as it is now."""
-        return self.understood(pairings_of, self.got(f"/rounds/{number}"))
-
-    def fault(self, status: int, text: str) -> Union[Refused, Declined]:
-        try:
-            told = json.loads(text)
-            return Refused(int(told["refused"]), str(told["name"]))
-        except (ValueError, KeyError, TypeError):
-            return self.foreign(f"{status} {' '.join(visible(text).split())[:60]}")
-
-    def foreign(self, why: str) -> Declined:
-        return Declined(f"{self.named} is not event_reporter: {why}\nGive the port that `serve` said.")
-
-    def ask(self, name: str, *_words: str) -> str:
-        raise Declined(
-            f"`serve` holds the file, and takes no {name}. End it by Ctrl-C in its window, end\n"
-            "this by Ctrl-D, and run event-desk FILE without --port."
-        )
-
-    def text(self, name: str, *words: str) -> str:
-        if name not in self.PATHS:
-            return self.ask(name)
-        return self.got(self.PATHS[name] + "".join(words))
-
-    def report(self, number: int, table: str, score: Score) -> str:
-        x, y, d = (int(games) for games in score)
-        status, text = self.exchanged(
-            "POST", f"/rounds/{number}/tables/{table}", json.dumps({"a": x, "b": y, "d": d})
-        )
-        if status == 200:
-            return f"ok {self.serial_in(text)}\n"
-        if status == 400:
-            raise Declined("Not taken: no count of games goes above 255.")
-        if status == 404 and "refused" not in text:
-            raise Declined("There is no such table. See: round")
-        raise self.fault(status, text)
-
-    def serial_in(self, text: str) -> int:
-        try:
-            return int(json.loads(text)["serial"])
-        except (ValueError, KeyError, TypeError):
-            raise self.foreign(text[:60]) from None
-
-    def players(self) -> Players:
-        return players_in(self.standings())
-
-    def rounds(self) -> Rounds:
-        """All rounds. Those before the newest one don't change while it serves, and aren't asked again."""
-        self.known = self.known[:-1]
-        while len(self.known) <= MOST_ROUNDS:
-            try:
-                text = self.got(f"/rounds/{len(self.known) + 1}")
-            except Refused as refused:
-                if refused.is_unsure:
-                    raise
-                return self.known
-            self.known.append(self.understood(pairings_of, text))
-        raise self.foreign(f"it has more than {MOST_ROUNDS} rounds")
-
-    def bracket(self) -> Bracket:
-        """No bracket is handed out over HTTP."""
-        return Bracket()
-
-    def standings(self) -> list[Standing]:
-        return self.understood(standings_of, self.got("/standings"))
-
-    def is_swiss(self) -> bool:
-        """No table has number 999: it is refused 12 in the Swiss rounds, and 6 before and after them."""
-        status, text = self.exchanged("POST", "/rounds/1/tables/999", '{"a":0,"b":0,"d":0}')
-        fault = self.fault(status, text)
-        return isinstance(fault, Refused) and fault.number == Refusal.NO_SUCH_MATCH
-
-    def is_all_paired(self) -> bool:
-        return False
-
-    def stamp(self) -> Stamp:
-        return None

@@ -10,7 +10,7 @@ import os
 import shutil
 import tempfile
 from dataclasses import dataclass, replace
-from typing import Callable, Iterator, List, Optional, Tuple
+from typing import Callable, Iterator, Optional
 
 from companions.checking import copies_before, differing_tables, keys_of, opened
 from companions.copies import Copies, Copy
@@ -19,7 +19,7 @@ from companions.files import has_log
 from companions.keys import Keys
 from companions.lists import Bracket, Match, Matches, Players, Rounds
 from companions.plan import Plan, plan_of
-from companions.program import FAULTS, Declined, OverFile, Refusal, Refused, Source
+from companions.program import FAULTS, Declined, Refusal, Refused, Source
 from companions.rosters import written_list
 from companions.turn import Turn
 
@@ -39,11 +39,11 @@ class Change:
     # a score of the newest round that is taken back, by its table
     table: Optional[int] = None
     # the newest score of the playoff that is taken back
-    slot: Optional[Tuple[int, int]] = None
+    slot: Optional[tuple[int, int]] = None
     # a player whose drop is taken back; one who is not there; one who is enrolled under another name
     back_in: Optional[int] = None
     removed: Optional[int] = None
-    renamed: Optional[Tuple[int, str]] = None
+    renamed: Optional[tuple[int, str]] = None
 
     @property
     def name(self) -> str:
@@ -75,14 +75,14 @@ class Change:
         """The rounds, in the newest of which a score is taken back."""
         if self.table is None or not rounds:
             return rounds
-        newest = [replace(match, score="") if match.place == self.table else match for match in rounds[-1]]
+        newest = [replace(match, score=None) if match.place == self.table else match for match in rounds[-1]]
         return [*rounds[:-1], newest]
 
     def stages(self, bracket: Bracket) -> Bracket:
         if self.slot is None:
             return bracket
         stages = [
-            [replace(match, score="") if (stage, match.place) == self.slot else match for match in matches]
+            [replace(match, score=None) if (stage, match.place) == self.slot else match for match in matches]
             for stage, matches in enumerate(bracket.stages[: self.slot[0]], 1)
         ]
         return Bracket(stages, None)
@@ -101,7 +101,7 @@ class NotTheSame(Declined):
 class Replay:
     """Brings a new file to where the old event was at some time: its players, scores and drops."""
 
-    def __init__(self, made: OverFile, begins: Optional[Event] = None):
+    def __init__(self, made: Source, begins: Optional[Event] = None):
         self.made = made
         self.players: Players = begins.enrolled if begins else {}
         self.scores = {
@@ -121,16 +121,16 @@ class Replay:
                 self.made.ask("drop", str(number))
         self.players = players
 
-    def enrol(self, names: List[str]) -> None:
+    def enrol(self, names: list[str]) -> None:
         if names:
             with written_list(names) as written:
                 self.made.ask("import", written)
 
     def enter(self, number: int, match: Match) -> None:
-        known = self.scores.get((number, match.place), "")
+        known = self.scores.get((number, match.place))
         if not match.is_bye and match.score and match.score != known:
             word = "correct" if known else "result"
-            self.made.ask(word, str(number), str(match.place), *match.score.split("-"))
+            self.made.ask(word, str(number), str(match.place), *match.score.words)
             self.scores[number, match.place] = match.score
 
     def pair(self, number: int, key: str, stored: Matches) -> None:
@@ -202,17 +202,16 @@ def last_before(course: Course, now: Event, plan: Plan, change: Change) -> Optio
     return before if plan_of(before.copy.path, Turn()) == plan else None
 
 
-def copied(source: OverFile, path: str, copy: Copy) -> OverFile:
+def copied(source: Source, path: str, copy: Copy) -> Source:
     for log in ("-wal", ""):
         if os.path.exists(copy.path + log):
             shutil.copyfile(copy.path + log, path + log)
-    return OverFile(source.program, path)
+    return Source(source.program, path)
 
 
-def play(course: Course, now: Event, plan: Plan, change: Change, path: str) -> OverFile:
+def play(course: Course, now: Event, plan: Plan, change: Change, path: str) -> Source:
     """Plays the event with the change into a new file, and compares it with what is due."""
     source, number = course.source, len(now.rounds)
-    assert isinstance(source, OverFile)
     uncut = course.before_the_cut(now, plan) if now.stages else None
     last = None if uncut else last_before(course, now, plan, change)
     if uncut:
@@ -222,11 +221,11 @@ def play(course: Course, now: Event, plan: Plan, change: Change, path: str) -> O
         replay = Replay(copied(source, path, last.copy), last.event)
         replay.pair(number, last.key, now.rounds[-1])
     else:
-        replay = Replay(OverFile(source.program, path))
+        replay = Replay(Source(source.program, path))
         play_from_the_beginning(course, now, change.plan(plan), change, replay)
     replay.bring_to(change.players(now.enrolled), change.matches(now.rounds))
     play_playoff(replay.made, now, change)
-    must_be_due(Event(OverFile(source.program, path)), now, change)
+    must_be_due(Event(Source(source.program, path)), now, change)
     return replay.made
 
 
@@ -264,14 +263,14 @@ def begin(replay: Replay, players: Players, starts: bool) -> None:
         replay.made.ask("start")
 
 
-def play_playoff(made: OverFile, now: Event, change: Change) -> None:
+def play_playoff(made: Source, now: Event, change: Change) -> None:
     stages = change.stages(now.bracket).stages
     if stages:
         made.ask("cut")
     for stage, matches in enumerate(stages, 1):
         for match in matches:
             if match.score:
-                made.ask("playoff", str(stage), str(match.place), *match.score.split("-"))
+                made.ask("playoff", str(stage), str(match.place), *match.score.words)
 
 
 def must_be_due(made: Event, now: Event, change: Change) -> None:
@@ -283,7 +282,7 @@ def must_be_due(made: Event, now: Event, change: Change) -> None:
         raise NotTheSame("The standings would be others.")
 
 
-def ranks(event: Event) -> List[Tuple[str, ...]]:
+def ranks(event: Event) -> list[tuple[str, ...]]:
     """The standings by the players' numbers."""
     return [
         (

@@ -5,14 +5,20 @@ import json
 import os
 import threading
 import time
-from dataclasses import asdict, dataclass
-from typing import Dict, List, Optional, Tuple
+from dataclasses import dataclass
+from typing import Optional
 
 from companions.lists import Match, Matches, Player, Players
+from companions.score import Score
 
 # the program took it; it was stored already; another score was stored; it waits for the other seat; and the
 # scorekeeper has looked at the table
 STORED, SAME, OTHER, WAITS, SETTLED = "stored", "same", "other", "waits", "settled"
+# no score was said, but who goes home after the round, or that this is taken back
+HOME, STAYS = "home", "stays"
+# a judge is called to the table; none is needed any more; and one has been there
+CALLS, CALLS_OFF, JUDGED = "calls", "calls off", "judged"
+NO_SCORE = Score(0, 0)
 MOST_BYTES = 8_000_000
 TIME = "%Y-%m-%dT%H:%M:%S"
 
@@ -26,11 +32,11 @@ class Report:
     table: int
     first: int
     second: int
-    score: str
+    score: Score
     outcome: str
-    stored: str
+    stored: Optional[Score]
     origin: str
-    drops: Tuple[int, ...] = ()
+    drops: tuple[int, ...] = ()
     seat: int = 0
 
     @property
@@ -39,15 +45,11 @@ class Report:
         return self.outcome != STORED or bool(self.drops)
 
     def is_of(self, number: int, match: Match) -> bool:
-        return (self.round, self.table, self.first, self.second) == (
-            number,
-            match.place,
-            match.first,
-            match.second,
-        )
+        return (self.round, self.table, self.first, self.second) == (number, *match.seats)
 
     def line(self) -> bytes:
-        return (json.dumps(asdict(self), ensure_ascii=True) + "\n").encode("ascii")
+        told = dict(vars(self), score=str(self.score), stored=str(self.stored) if self.stored else "")
+        return (json.dumps(told, ensure_ascii=True) + "\n").encode("ascii")
 
 
 NUMBERS = ("round", "table", "first", "second", "seat")
@@ -63,7 +65,10 @@ def report_of(line: bytes) -> Optional[Report]:
         is_whole = all(type(number) is int for number in (*numbers, *drops)) and all(
             type(text) is str for text in texts
         )
-        return Report(**dict(told, drops=drops)) if is_whole else None
+        if not is_whole:
+            return None
+        stored = Score.parse(told["stored"]) if told["stored"] else None
+        return Report(**dict(told, score=Score.parse(told["score"]), stored=stored, drops=drops))
     except (ValueError, KeyError, TypeError):
         return None
 
@@ -81,13 +86,13 @@ class Reports:
     def __init__(self, file: str):
         self.path = f"{file}.reports"
         self.lock = threading.RLock()
-        self.all: List[Report] = []
+        self.all: list[Report] = []
         # what the disk had no room for
-        self.unwritten: List[Report] = []
+        self.unwritten: list[Report] = []
         self.read_to, self.inode = 0, 0
         self.more()
 
-    def more(self) -> List[Report]:
+    def more(self) -> list[Report]:
         """What came since it was read last."""
         with self.lock:
             try:
@@ -119,6 +124,18 @@ class Reports:
                 raise
             self.more()
 
+    def write_again(self) -> bool:
+        """Whether what the disk had no room for is in the file now."""
+        with self.lock:
+            while self.unwritten:
+                try:
+                    self.append(self.unwritten[0])
+                except OSError:
+                    return False
+                del self.unwritten[0]
+            self.more()
+            return True
+
     def append(self, report: Report) -> None:
         """A line that was broken off before it stays alone."""
         handle = os.open(self.path, os.O_RDWR | os.O_APPEND | os.O_CREAT, 0o600)
@@ -134,11 +151,16 @@ class Reports:
             if report.has_to_stay:
                 os.fsync(handle)
 
-    def of_round(self, number: int) -> List[Report]:
+    @property
+    def count(self) -> tuple[int, int, int]:
+        """What changes with each report."""
+        return self.inode, len(self.all), len(self.unwritten)
+
+    def of_round(self, number: int) -> list[Report]:
         with self.lock:
             return [report for report in [*self.all, *self.unwritten] if report.round == number]
 
-    def of_match(self, number: int, match: Match) -> List[Report]:
+    def of_match(self, number: int, match: Match) -> list[Report]:
         """Those since the scorekeeper last looked at the table."""
         found = [report for report in self.of_round(number) if report.is_of(number, match)]
         settled = [place for place, report in enumerate(found) if report.outcome == SETTLED]
@@ -147,9 +169,8 @@ class Reports:
 
 def settle(reports: Reports, number: int, match: Match) -> None:
     """The scorekeeper has stored a score, whatever the phones said before."""
-    if any(report.outcome in (OTHER, WAITS) for report in reports.of_match(number, match)):
-        seats = number, match.place, match.first, match.second
-        reports.add(Report(time.strftime(TIME), *seats, match.score, SETTLED, match.score, "the prompt"))
+    if match.score and any(report.outcome in (OTHER, WAITS) for report in reports.of_match(number, match)):
+        reports.add(Report(time.strftime(TIME), number, *match.seats, match.score, SETTLED, match.score, "the prompt"))
 
 
 # ---- what the scorekeeper has to look at
@@ -160,20 +181,30 @@ class TwoScores:
     """A table at which a phone says what isn't stored, the newest such report last."""
 
     match: Match
-    said: Tuple[Report, ...]
+    stored: Score
+    said: tuple[Report, ...]
 
 
-def two_scores(reports: Reports, number: int, matches: Matches) -> List[TwoScores]:
+def two_scores(reports: Reports, number: int, matches: Matches) -> list[TwoScores]:
     found = []
     for match in matches:
         said = tuple(
             report
-            for report in reports.of_match(number, match)
+            for report in last_words(reports.of_match(number, match))
             if report.outcome in (OTHER, WAITS) and report.score != match.score
         )
         if match.score and not match.is_bye and said:
-            found.append(TwoScores(match, said))
+            found.append(TwoScores(match, match.score, said))
     return found
+
+
+def last_words(said: list[Report]) -> list[Report]:
+    """What counts of what was said: of a seat the newest, since it may mend its own score. Who said what by
+    the code of a table isn't known, so that all of it counts.
+    """
+    scores = [report for report in said if report.outcome in (STORED, SAME, OTHER, WAITS)]
+    newest = {report.seat: report for report in scores}
+    return [report for report in scores if not report.seat or report is newest[report.seat]]
 
 
 @dataclass(frozen=True)
@@ -181,32 +212,67 @@ class HalfSaid:
     """An open table at which a seat has said a score, or both have said two."""
 
     match: Match
-    by_seat: Dict[int, Report]
+    by_seat: dict[int, Report]
 
 
-def half_said(reports: Reports, number: int, match: Match) -> Dict[int, Report]:
+def half_said(reports: Reports, number: int, match: Match) -> dict[int, Report]:
     """The newest report of each seat that waits."""
     waiting = [report for report in reports.of_match(number, match) if report.outcome == WAITS]
     return {report.seat: report for report in waiting}
 
 
-def all_half_said(reports: Reports, number: int, matches: Matches) -> List[HalfSaid]:
+def all_half_said(reports: Reports, number: int, matches: Matches) -> list[HalfSaid]:
     found = [HalfSaid(match, half_said(reports, number, match)) for match in matches if match.is_open]
     return [half for half in found if half.by_seat]
 
 
-def going_home(reports: Reports, number: int, players: Players) -> List[Player]:
-    """Who said so in this round, and is still there."""
-    asked = {drop for report in reports.of_round(number) for drop in report.drops}
-    return [players[drop] for drop in sorted(asked) if drop in players and not players[drop].has_dropped]
+@dataclass(frozen=True)
+class GoingHome:
+    """Who goes home after the round, and the table that said so last."""
+
+    player: Player
+    table: int
 
 
-def shown_score(score: str) -> str:
-    """A score in a line, without drawn games where there are none."""
-    return score[:-2] if score.endswith("-0") else score
+def going_home(reports: Reports, number: int, players: Players) -> list[GoingHome]:
+    """Who is still there of those of whom it was said in this round, and not taken back."""
+    said = {drop: report for report in reports.of_round(number) for drop in report.drops}
+    return [
+        GoingHome(players[drop], said[drop].table)
+        for drop in sorted(said)
+        if said[drop].outcome != STAYS and drop in players and not players[drop].has_dropped
+    ]
 
 
-def words_to_store(number: int, match: Match, score: str) -> str:
+@dataclass(frozen=True)
+class JudgeCall:
+    """A table that waits for a judge, who called, and when."""
+
+    match: Match
+    report: Report
+
+    @property
+    def caller(self) -> int:
+        return self.match.second if self.report.seat == 2 else self.match.first
+
+
+def judge_call(reports: Reports, number: int, match: Match) -> Optional[JudgeCall]:
+    said = [report for report in reports.of_round(number) if report.is_of(number, match)]
+    calls = [report for report in said if report.outcome in (CALLS, CALLS_OFF, JUDGED)]
+    return JudgeCall(match, calls[-1]) if calls and calls[-1].outcome == CALLS else None
+
+
+def judge_calls(reports: Reports, number: int, matches: Matches) -> list[JudgeCall]:
+    found = [judge_call(reports, number, match) for match in matches]
+    return [call for call in found if call]
+
+
+def judged(reports: Reports, number: int, match: Match) -> None:
+    """A judge has been at the table."""
+    reports.add(Report(time.strftime(TIME), number, *match.seats, NO_SCORE, JUDGED, None, "the prompt"))
+
+
+def words_to_store(number: int, match: Match, score: Score) -> str:
     """The line to type at the prompt."""
-    games = " ".join(score.split("-"))
-    return f"fix {number} {match.place} {games}" if match.score else f"{match.place} {games}"
+    line = f"{match.place} {score.typed}"
+    return f"fix {number} {line}" if match.score else line

@@ -12,7 +12,7 @@ import unicodedata
 from dataclasses import dataclass, field
 from typing import Iterator, List, Optional
 
-from companions.names import compared, visible
+from companions.names import compared, listed, visible
 from companions.program import Declined
 
 ALONE = ("name", "player", "player name", "full name")
@@ -50,6 +50,8 @@ class Roster:
     alike: list[Alike] = field(default_factory=list)
     already: list[str] = field(default_factory=list)
     left_out: list[str] = field(default_factory=list)
+    # last names of several words, or that come first, if the list has them apart
+    lasts: dict[str, str] = field(default_factory=dict)
 
 
 @dataclass(frozen=True)
@@ -243,6 +245,9 @@ def roster_of(data: bytes, enrolled: set[str], codec: str = "") -> Roster:
     sorting, club = Sorting(roster, enrolled), column_of(table.heading, CLUB)
     for place, fields in enumerate(table.rows[table.top + 1 :], table.top + 2):
         name = tidy(" ".join(field_of(fields, column) for column in columns))
+        last = field_of(fields, columns[1]) if len(columns) > 1 else ""
+        if listed(name, last) != listed(name):
+            roster.lasts[name] = last
         if any(map(tidy, fields)):
             sorting.add(place, name, field_of(fields, club))
     return roster

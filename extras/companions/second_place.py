@@ -11,10 +11,10 @@ from dataclasses import dataclass
 from typing import Optional
 
 from companions.copies import Copy
-from companions.files import copy_synced, sync_folder
+from companions.files import copy_folder_synced, copy_synced, sync_folder
 
 # what the companions keep beside an event, and what a scorekeeper needs to go on from a copy
-BESIDE = ("keys", "names", "doubts", "title", "clock", "phones", "reports")
+BESIDE = ("keys", "names", "doubts", "title", "clock", "phones", "reports", "notes", "draws")
 ANOTHER_DISK, SAME_DISK = "another disk", "the same disk"
 
 
@@ -81,7 +81,9 @@ class SecondPlace:
             if os.path.exists(copy.path + log):
                 copy_synced(copy.path + log, os.path.join(part, name + log))
         for kind in BESIDE:
-            if os.path.exists(f"{self.file}.{kind}"):
+            if os.path.isdir(f"{self.file}.{kind}"):
+                copy_folder_synced(f"{self.file}.{kind}", os.path.join(part, f"{name}.{kind}"))
+            elif os.path.exists(f"{self.file}.{kind}"):
                 copy_synced(f"{self.file}.{kind}", os.path.join(part, f"{name}.{kind}"))
         sync_folder(part)
         os.rename(part, whole)

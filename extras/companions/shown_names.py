@@ -1,5 +1,5 @@
-"""FILE.names: how names are shown that were wrong when the event began, a line `NUMBER TAB ENROLLED TAB
-SHOWN` for each.
+"""FILE.names: how names are shown that were wrong when the event began, and last names that a list has told, a
+line `NUMBER TAB ENROLLED TAB SHOWN` for each, and `TAB LAST` after it.
 
 The enrolled name stands there too: a line counts for the player of this number while that is the name, also
 after `back`.
@@ -8,9 +8,9 @@ from __future__ import annotations
 
 import os
 from dataclasses import dataclass, replace
-from typing import Dict, List
 
 from companions.lists import Players, Row, cells_of, columns_of, lines_of, whole
+from companions.names import listed
 
 
 @dataclass(frozen=True, order=True)
@@ -18,11 +18,22 @@ class ShownName:
     number: int
     enrolled: str
     shown: str
+    last: str = ""
+
+    @property
+    def line(self) -> str:
+        last = f"\t{self.last}" if self.last else ""
+        return f"{self.number}\t{self.enrolled}\t{self.shown}{last}\n"
+
+    @property
+    def is_of_use(self) -> bool:
+        return self.shown != self.enrolled or bool(self.last)
 
 
-def shown_name_of(line: str) -> List[ShownName]:
+def shown_name_of(line: str) -> list[ShownName]:
     fields = line.split("\t")
-    return [ShownName(int(fields[0]), *fields[1:])] if len(fields) == 3 and fields[0].isdecimal() else []
+    is_one = len(fields) in (3, 4) and fields[0].isdecimal()
+    return [ShownName(int(fields[0]), *fields[1:])] if is_one else []
 
 
 class ShownNames:
@@ -36,10 +47,19 @@ class ShownNames:
         except FileNotFoundError:
             return []
 
-    def keep(self, name: ShownName) -> None:
-        """From now on the player is shown so. The enrolled name takes the line away."""
-        others = [other for other in self.all() if other.number != name.number]
-        self.write(sorted([*others, name] if name.shown != name.enrolled else others))
+    def keep(self, *names: ShownName) -> None:
+        """From now on the players are shown so. The enrolled name, if no last name was told, takes the line
+        away.
+        """
+        numbers = {name.number for name in names}
+        others = [other for other in self.all() if other.number not in numbers]
+        self.write(sorted([*others, *(name for name in names if name.is_of_use)]))
+
+    def rename(self, number: int, enrolled: str, shown: str) -> None:
+        """The same of a player whose last name may have been told: it stays if it is in the new name."""
+        told = [other.last for other in self.all() if other.number == number]
+        last = told[0] if told and told[0] and listed(shown, told[0]).leads == told[0] else ""
+        self.keep(ShownName(number, enrolled, shown, last))
 
     def without(self, number: int) -> None:
         """Of a player who was removed. Those who came later have a number less."""
@@ -47,19 +67,22 @@ class ShownNames:
         if self.all():
             self.write([replace(it, number=it.number - (it.number > number)) for it in others])
 
-    def write(self, names: List[ShownName]) -> None:
+    def write(self, names: list[ShownName]) -> None:
         beside = f"{self.path}.part"
         with open(beside, "w", encoding="utf-8", newline="\n") as written:
-            written.writelines(f"{kept.number}\t{kept.enrolled}\t{kept.shown}\n" for kept in names)
+            written.writelines(kept.line for kept in names)
             written.flush()
             os.fsync(written.fileno())
         os.replace(beside, self.path)
 
     def shown(self, players: Players) -> Players:
         """The players under the names by which they are shown."""
-        names = {name.number: name.shown for name in self.all() if is_of(name, players)}
+        names = {name.number: name for name in self.all() if is_of(name, players)}
         return {
-            number: replace(player, name=names.get(number, player.name)) for number, player in players.items()
+            number: replace(player, name=names[number].shown, last=names[number].last)
+            if number in names
+            else player
+            for number, player in players.items()
         }
 
 
@@ -86,7 +109,7 @@ def with_shown_names(text: str, enrolled: Players, shown: Players) -> str:
 
 
 def line_shown(
-    line: str, columns: Dict[str, slice], last: str, changed: Dict[int, str], shown: Players
+    line: str, columns: dict[str, slice], last: str, changed: dict[int, str], shown: Players
 ) -> str:
     word, *rest = line.split(" ")
     if word == "Champion":

@@ -2,7 +2,7 @@
 from __future__ import annotations
 
 import re
-from typing import Optional, Tuple
+from typing import Optional
 
 # counted from the end
 NAMES = ("final", "semifinal", "quarterfinal")
@@ -42,7 +42,7 @@ def stage_of(name: str, first: int) -> int:
     return first.bit_length() - NAMES.index(whole)
 
 
-def words_of_slot(text: str, first: int) -> Optional[Tuple[int, int, str]]:
+def words_of_slot(text: str, first: int) -> Optional[tuple[int, int, str]]:
     """Stage, slot, and what comes after them, of words such as `qf2 2 1`; None if no stage is named."""
     found = TYPED.fullmatch(text.strip())
     if not found:

@@ -7,7 +7,7 @@ import contextlib
 import fcntl
 import os
 import threading
-from typing import Iterator, Optional, Tuple
+from typing import Iterator, Optional
 
 # the lock of a companion that hangs is passed over in the end; the program still takes one command at a time
 MOST_SECONDS = 40
@@ -24,7 +24,7 @@ class Turn:
         self.handle: Optional[int] = None
 
     @contextlib.contextmanager
-    def taken(self) -> Iterator[Tuple[int, ...]]:
+    def taken(self) -> Iterator[tuple[int, ...]]:
         """The handle that holds the lock, for a program that is called meanwhile: a turn lasts until that
         ends, also where the companion is killed. None, where there is no FILE.turn and none can be made.
         """

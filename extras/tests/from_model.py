@@ -1,11 +1,13 @@
 """A source that answers from the plain reading of the rules, in place of the program."""
 from companions.lists import Bracket, Match, Player, standings_of
+from companions.score import Score
+from companions.turn import Turn
 
 
 class FromModel:
     """A source that answers from the plain reading."""
 
-    is_served = False
+    turn = Turn()
 
     def __init__(self, event):
         self.event = event
@@ -16,10 +18,12 @@ class FromModel:
         }
 
     def lists(self, lists):
-        shown = lambda score: "-".join(map(str, score)) if score else ""
         return [
-            [Match(at if b else 0, a, b, shown(score)) for at, (a, b, score) in enumerate(it, 1)]
-            for it in lists
+            [
+                Match(at if b else 0, a, b, score and Score(*score))
+                for at, (a, b, score) in enumerate(matches, 1)
+            ]
+            for matches in lists
         ]
 
     def rounds(self):

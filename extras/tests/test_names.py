@@ -1,7 +1,9 @@
 import pytest
-from companions.names import compared, found_by, plain, sort_key, visible
+from companions.lists import Player
+from companions.names import Listed, compared, found_by, listed, plain, sort_key, visible
+from companions.sheets.parts import name_rows
 from scripts.clients.random_evenings import FIRST_NAMES, HOSTILE
-from scripts.models.plain_page import folded
+from scripts.models.plain_page import folded, parted
 
 
 @pytest.mark.parametrize("name, shown", [
@@ -130,3 +132,47 @@ def test_names_are_sorted_as_the_plain_reading_sorts_them():
     more = ["ana", "Oscar", "Lukas", "O’Brien", "Obrian", "Anna Lena", "Annalena"]
     names = [*HOSTILE, *FIRST_NAMES, *more]
     assert sorted(names, key=sort_key) == sorted(names, key=lambda name: (folded(name), name))
+
+
+@pytest.mark.parametrize("name, last, leads, follows", [
+    ("Ana Lima", "", "Lima", "Ana"),
+    ("Anna Maria Smith", "", "Smith", "Anna Maria"),
+    ("Bo", "", "Bo", ""),
+    # as a list of first and last names has told it
+    ("Pieter-Jan van der Berg", "", "Berg", "Pieter-Jan van der"),
+    ("Pieter-Jan van der Berg", "van der Berg", "van der Berg", "Pieter-Jan"),
+    ("Li Wei", "Li", "Li", "Wei"),
+    ("Ana Lima", "Sato", "Lima", "Ana"),
+    # what tells two apart stands at the end
+    ("Jo Sato (Owls)", "", "Sato", "Jo (Owls)"),
+    ("Jo van der Berg (2)", "van der Berg", "van der Berg", "Jo (2)"),
+    ("(Owls)", "", "(Owls)", ""),
+    # written so already
+    ("Lima, Ana", "", "Lima", "Ana"),
+    ("Lima, Ana (2)", "", "Lima", "Ana (2)"),
+    ("Lima, Ana, Jo", "", "Jo", "Lima, Ana,"),
+    # no word with a letter leads
+    ("Player 12", "", "Player 12", ""),
+    ("Ana - bye", "", "bye", "Ana -"),
+])
+def test_what_leads_in_a_list_by_last_name(name, last, leads, follows):
+    assert listed(name, last) == Listed(leads, follows)
+    assert parted(name, last) == (leads, follows)
+
+
+def test_the_plain_reading_parts_names_as_the_companions_do():
+    for name in [*HOSTILE, *FIRST_NAMES, *NAMES, "a (b) c", "a (b)(c)", "a (b (c)", ",a", "a,", "a ,b", "a, b ", "x \u2028 y"]:
+        assert (listed(name).leads, listed(name).follows) == parted(name), name
+
+
+def test_last_names_stand_where_people_look_for_them():
+    """Under a letter as it is typed: Ł under L, Ø under O, Đ under D, Æ under A."""
+    names = [
+        "Bo Ærø", "Ana Åström", "Tim Becker", "Tom Becker", "Zoë Đorđe", "Eva Hoffmann", "Jan Łukasz",
+        "Jo O'Brien", "Al Østergård", "Mia Šimák", "Ana Zed",
+    ]
+    rows = name_rows([Player(at, name, False) for at, name in enumerate(reversed(names), 1)], False)
+    assert [row.player.name for row in rows] == names
+    assert [row.letter for row in rows] == ["A", "", "B", "", "D", "H", "L", "O", "", "S", "Z"]
+    by_first = name_rows([row.player for row in rows], True)
+    assert [row.name.leads for row in by_first][:3] == ["Al Østergård", "Ana Åström", "Ana Zed"]

@@ -2,14 +2,15 @@
 from companions.lists import Bracket, Match, Player
 from companions.plan import Plan, ordinal, usual_rounds
 from companions.replaying import Change
+from companions.score import Score
 
 PLAYERS = {number: Player(number, f"P{number}", number == 3) for number in range(1, 5)}
 ROUNDS = [
-    [Match(1, 1, 2, "2-0-0"), Match(2, 3, 4, "0-2-0")],
-    [Match(1, 1, 4, "2-1-0"), Match(2, 2, 3, "1-1-1")],
+    [Match(1, 1, 2, Score(2, 0)), Match(2, 3, 4, Score(0, 2))],
+    [Match(1, 1, 4, Score(2, 1)), Match(2, 2, 3, Score(1, 1, 1))],
 ]
-FINAL = Match(1, 1, 3, "2-0-0")
-BRACKET = Bracket([[Match(1, 1, 4, "2-0-0"), Match(2, 2, 3, "0-2-0")], [FINAL]], 1)
+FINAL = Match(1, 1, 3, Score(2, 0))
+BRACKET = Bracket([[Match(1, 1, 4, Score(2, 0)), Match(2, 2, 3, Score(0, 2))], [FINAL]], 1)
 
 
 def test_nothing_changes():
@@ -27,7 +28,7 @@ def test_other_rounds_and_another_cut():
 
 def test_a_score_of_the_newest_round_is_taken_back():
     rounds = Change(table=2).matches(ROUNDS)
-    assert rounds == [ROUNDS[0], [ROUNDS[1][0], Match(2, 2, 3, "")]]
+    assert rounds == [ROUNDS[0], [ROUNDS[1][0], Match(2, 2, 3)]]
 
 
 def test_a_drop_is_taken_back():
@@ -45,9 +46,9 @@ def test_another_name():
 
 
 def test_a_score_of_the_playoff_is_taken_back():
-    assert Change(slot=(2, 1)).stages(BRACKET) == Bracket([BRACKET.stages[0], [Match(1, 1, 3, "")]], None)
+    assert Change(slot=(2, 1)).stages(BRACKET) == Bracket([BRACKET.stages[0], [Match(1, 1, 3)]], None)
     # with the later stages, which come of it
-    assert Change(slot=(1, 2)).stages(BRACKET) == Bracket([[BRACKET.stages[0][0], Match(2, 2, 3, "")]], None)
+    assert Change(slot=(1, 2)).stages(BRACKET) == Bracket([[BRACKET.stages[0][0], Match(2, 2, 3)]], None)
 
 
 def test_the_name_of_the_copy_from_before():

@@ -8,28 +8,35 @@ from companions import reports as module
 from companions.lists import Match, Player
 from companions.prompt.news import lines_of
 from companions.reports import (
+    CALLS,
+    HOME,
+    NO_SCORE,
     OTHER,
     SETTLED,
+    STAYS,
     STORED,
     WAITS,
+    GoingHome,
     Report,
     Reports,
     all_half_said,
     going_home,
     half_said,
+    judge_calls,
+    judged,
     settle,
-    shown_score,
     two_scores,
     words_to_store,
 )
+from companions.score import Score
 
-STORED_AT_9 = Match(9, 1, 2, "2-1-0")
-OPEN_AT_9 = Match(9, 1, 2, "")
+STORED_AT_9 = Match(9, 1, 2, Score(2, 1))
+OPEN_AT_9 = Match(9, 1, 2)
 PLAYERS = {number: Player(number, f"P{number}", number == 3) for number in range(1, 5)}
 
 
-def report(outcome=OTHER, score="0-2-0", **words):
-    made = Report("2026-11-28T20:14:05", 3, 9, 1, 2, score, outcome, "2-1-0", "10.0.0.7")
+def report(outcome=OTHER, score=Score(0, 2), **words):
+    made = Report("2026-11-28T20:14:05", 3, 9, 1, 2, score, outcome, Score(2, 1), "10.0.0.7")
     return dataclasses.replace(made, **words)
 
 
@@ -95,6 +102,18 @@ def test_a_disk_that_is_full_keeps_it_in_memory(tmp_path):
     assert kept.unwritten == [report()] and kept.of_round(3) == [report()]
 
 
+def test_what_the_disk_had_no_room_for_is_written_later(kept, monkeypatch):
+    with monkeypatch.context() as full:
+        full.setattr(module, "MOST_BYTES", 10)
+        for score in (Score(0, 2), Score(2, 0)):
+            with pytest.raises(OSError):
+                kept.add(report(score=score))
+        assert not kept.write_again() and len(kept.unwritten) == 2
+    assert kept.write_again() and kept.unwritten == []
+    assert [found.score for found in Reports(kept.path[: -len(".reports")]).all] == [Score(0, 2), Score(2, 0)]
+    assert len(kept.of_round(3)) == 2
+
+
 def test_the_file_ends_at_its_limit(kept, monkeypatch):
     monkeypatch.setattr(module, "MOST_BYTES", 2 * len(report().line()))
     kept.add(report())
@@ -106,16 +125,16 @@ def test_the_file_ends_at_its_limit(kept, monkeypatch):
 
 def test_a_table_has_two_scores_until_it_is_settled(kept):
     kept.add(report())
-    kept.add(report(score="1-2-0"))
-    (found,) = two_scores(kept, 3, [STORED_AT_9, Match(1, 3, 4, "")])
-    assert found.match == STORED_AT_9 and [said.score for said in found.said] == ["0-2-0", "1-2-0"]
+    kept.add(report(score=Score(1, 2)))
+    (found,) = two_scores(kept, 3, [STORED_AT_9, Match(1, 3, 4)])
+    assert found.match == STORED_AT_9 and [said.score for said in found.said] == [Score(0, 2), Score(1, 2)]
     # the score that the newest one says, or one that was entered at the prompt since
-    assert len(two_scores(kept, 3, [Match(9, 1, 2, "1-2-0")])[0].said) == 1
+    assert len(two_scores(kept, 3, [Match(9, 1, 2, Score(1, 2))])[0].said) == 1
     settle(kept, 3, STORED_AT_9)
     assert kept.all[-1].outcome == SETTLED and two_scores(kept, 3, [STORED_AT_9]) == []
     settle(kept, 3, STORED_AT_9)
     assert len(kept.all) == 3
-    kept.add(report(score="0-2-0"))
+    kept.add(report(score=Score(0, 2)))
     assert len(two_scores(kept, 3, [STORED_AT_9])) == 1
 
 
@@ -126,26 +145,58 @@ def test_what_others_said_at_the_table_does_not_count(kept):
 
 
 def test_the_newest_word_of_each_seat_waits(kept):
-    kept.add(report(WAITS, "2-0-0", seat=1))
-    kept.add(report(WAITS, "2-1-0", seat=1))
-    kept.add(report(WAITS, "0-2-0", seat=2))
+    kept.add(report(WAITS, Score(2, 0), seat=1))
+    kept.add(report(WAITS, Score(2, 1), seat=1))
+    kept.add(report(WAITS, Score(0, 2), seat=2))
     said = half_said(kept, 3, OPEN_AT_9)
-    assert {seat: found.score for seat, found in said.items()} == {1: "2-1-0", 2: "0-2-0"}
-    assert [half.match for half in all_half_said(kept, 3, [OPEN_AT_9, Match(1, 3, 4, "")])] == [OPEN_AT_9]
+    assert {seat: found.score for seat, found in said.items()} == {1: Score(2, 1), 2: Score(0, 2)}
+    assert [half.match for half in all_half_said(kept, 3, [OPEN_AT_9, Match(1, 3, 4)])] == [OPEN_AT_9]
     # the scorekeeper stored what one seat said
-    assert [said.score for said in two_scores(kept, 3, [STORED_AT_9])[0].said] == ["2-0-0", "0-2-0"]
+    assert [said.score for said in two_scores(kept, 3, [STORED_AT_9])[0].said] == [Score(0, 2)]
+
+
+@pytest.mark.parametrize("mended", [report(WAITS, Score(2, 1), seat=1), report("same", Score(2, 1), seat=1)])
+def test_a_seat_that_mends_its_own_score_says_no_other(kept, mended):
+    kept.add(report(WAITS if mended.outcome == WAITS else OTHER, Score(2, 0), seat=1))
+    kept.add(mended)
+    kept.add(report(STORED, Score(2, 1), seat=2))
+    assert two_scores(kept, 3, [STORED_AT_9]) == []
+    # another seat's word is not taken back by it
+    kept.add(report(OTHER, Score(0, 2), seat=2))
+    kept.add(report("same", Score(2, 1), seat=1))
+    assert [said.seat for said in two_scores(kept, 3, [STORED_AT_9])[0].said] == [2]
 
 
 def test_who_wants_to_go_home(kept):
     kept.add(report(STORED, drops=(1, 3)))
     kept.add(report(STORED, drops=(2, 99), round=2))
-    assert going_home(kept, 3, PLAYERS) == [PLAYERS[1]]
+    assert going_home(kept, 3, PLAYERS) == [GoingHome(PLAYERS[1], 9)]
+    kept.add(report(STAYS, drops=(1,)))
+    assert going_home(kept, 3, PLAYERS) == []
+    kept.add(report(HOME, drops=(1,), table=8))
+    assert going_home(kept, 3, PLAYERS) == [GoingHome(PLAYERS[1], 8)]
+    # no score is said by it
+    assert two_scores(kept, 3, [STORED_AT_9]) == [] and half_said(kept, 3, OPEN_AT_9) == {}
+
+
+def test_a_judge_is_called_until_one_has_been_there(kept):
+    assert judge_calls(kept, 3, [OPEN_AT_9]) == []
+    kept.add(report(CALLS, NO_SCORE, seat=2, stored=None))
+    (call,) = judge_calls(kept, 3, [OPEN_AT_9, Match(1, 3, 4)])
+    assert (call.match, call.caller) == (OPEN_AT_9, 2)
+    # a score that comes in meanwhile ends nothing
+    kept.add(report(STORED, Score(2, 1)))
+    assert judge_calls(kept, 3, [STORED_AT_9]) and not judge_calls(kept, 3, [Match(9, 1, 3)])
+    judged(kept, 3, STORED_AT_9)
+    assert judge_calls(kept, 3, [STORED_AT_9]) == [] and two_scores(kept, 3, [STORED_AT_9]) == []
+    kept.add(report(CALLS, NO_SCORE, seat=1, stored=None))
+    kept.add(report("calls off", NO_SCORE, seat=2, stored=None))
+    assert judge_calls(kept, 3, [STORED_AT_9]) == []
 
 
 def test_lines_to_type():
-    assert words_to_store(3, STORED_AT_9, "0-2-0") == "fix 3 9 0 2 0"
-    assert words_to_store(3, OPEN_AT_9, "0-2-1") == "9 0 2 1"
-    assert shown_score("2-1-0") == "2-1" and shown_score("1-1-1") == "1-1-1"
+    assert words_to_store(3, STORED_AT_9, Score(0, 2)) == "fix 3 9 0 2 0"
+    assert words_to_store(3, OPEN_AT_9, Score(0, 2, 1)) == "9 0 2 1"
 
 
 def test_what_the_prompt_tells():
@@ -155,13 +206,19 @@ def test_what_the_prompt_tells():
         report(STORED, table=8),
         report(),
         report(STORED, table=11, drops=(2,)),
+        report(STAYS, table=11, drops=(2,)),
+        report(CALLS, table=11, seat=2),
+        report("calls off", table=11),
     ]
     assert lines_of(came, PLAYERS) == [
         "From phones: 4 scores, tables 4, 7, 8, 11",
         "Table 9: stored is 2-1, and a phone says 0-2. If that is right: fix 3 9 0 2 0",
-        "P2 (2) wants to go home after the round: drop 2",
+        "Table 11: P2 (2) wants to go home after the round: drop 2",
+        "Table 11: P2 (2) stays after all",
+        "Table 11: P2 (2) calls a judge, 20:14. Once one has been there: judge 11",
+        "Table 11: no judge is needed any more",
     ]
-    assert lines_of([report(WAITS, "2-0-0", seat=2, stored="")], {}) == [
+    assert lines_of([report(WAITS, Score(2, 0), seat=2, stored=None)], {}) == [
         "Table 9: player 2 says 2-0. The other seat is to say it."
     ]
     assert lines_of([], {}) == []

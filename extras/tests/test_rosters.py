@@ -126,3 +126,10 @@ def test_the_program_gets_a_list_that_csv_reads_back():
     names = [" ".join(name.split()) for name in HOSTILE]
     with written_list(names) as path, open(path, encoding="utf-8", newline="") as written:
         assert list(csv.reader(written)) == [["name"], *([name] for name in names)]
+
+
+def test_last_names_are_kept_if_the_last_word_is_not_all_of_them():
+    rows = "First,Last", "Ana,Lima", "José María,García Pérez", "Pieter-Jan,van der Berg", "Zoë,"
+    roster = roster_of("\n".join([*rows, ""]).encode(), set())
+    assert roster.lasts == {"José María García Pérez": "García Pérez", "Pieter-Jan van der Berg": "van der Berg"}
+    assert roster_of(b"Name\nJo van der Berg\n", set()).lasts == {}

@@ -57,3 +57,18 @@ def test_texts_of_the_program_get_the_names(dice):
 ])
 def test_names_that_look_alike(one, other, is_alike):
     assert (compared(one) == compared(other)) == is_alike
+
+
+def test_a_last_name_that_a_list_has_told_is_kept(tmp_path):
+    names = ShownNames(f"{tmp_path}/e.event")
+    players = {1: Player(1, "Jo van der Berg", False), 2: Player(2, "Ana Lima", False)}
+    names.keep(ShownName(1, "Jo van der Berg", "Jo van der Berg", "van der Berg"))
+    assert open(names.path).read() == "1\tJo van der Berg\tJo van der Berg\tvan der Berg\n"
+    assert names.shown(players) == {1: replace(players[1], last="van der Berg"), 2: players[2]}
+    # it stays with a name that has it still
+    names.rename(1, "Jo van der Berg", "Joanna van der Berg")
+    assert names.all() == [ShownName(1, "Jo van der Berg", "Joanna van der Berg", "van der Berg")]
+    names.rename(1, "Jo van der Berg", "Jo Meyer")
+    assert names.all() == [ShownName(1, "Jo van der Berg", "Jo Meyer")]
+    names.rename(1, "Jo van der Berg", "Jo van der Berg")
+    assert names.all() == []
