@@ -1,10 +1,11 @@
 """What the program said is kept while no command came."""
 from companions.lists import Match
-from companions.program import PLAYERS, RESULTS, Kept
+from companions.program import PLAYERS, RESULTS, Kept, Stamp
+from companions.score import Score
 
-ONE, TWO, THREE = ((7, 4096, 1_000_000_001 + at, 41) for at in range(3))
-WHOLE = (7, 4096, 5_000_000_000, 41)
-ROUNDS = [[Match(1, 4, 2, "2-0-0")]]
+ONE, TWO, THREE = (Stamp(7, 4096, 1_000_000_001 + at, 41) for at in range(3))
+WHOLE = Stamp(7, 4096, 5_000_000_000, 41)
+ROUNDS = [[Match(1, 4, 2, Score(2, 0))]]
 
 
 def kept_at(stamp, serial=6):

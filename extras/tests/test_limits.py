@@ -5,7 +5,16 @@ import time
 
 import pytest
 from companions.phones.door import door_at
-from companions.phones.limits import MOST_KEYS, Buckets, Crowded, Lanes, origin_of
+from companions.phones.limits import (
+    ADDRESSES_OF_A_NETWORK,
+    MOST_KEYS,
+    Crowded,
+    DelayQueues,
+    OriginBuckets,
+    TokenBuckets,
+    network_of,
+    origin_of,
+)
 from companions.program import Declined
 
 
@@ -14,9 +23,9 @@ def test_so_many_at_once_and_then_one_in_so_many_seconds(monkeypatch):
     monkeypatch.setattr(time, "monotonic", lambda: now[0])
     # the clock on the wall may be set back: nothing goes by it
     monkeypatch.setattr(time, "time", lambda: 0.0)
-    buckets = Buckets(3, 10.0)
+    buckets = TokenBuckets(3, 10.0)
     assert [buckets.take("a") for _ in range(5)] == [True, True, True, False, False]
-    assert buckets.is_empty("a") and not buckets.is_empty("b") and buckets.take("b")
+    assert buckets.take("b")
     now[0] += 10
     assert [buckets.take("a") for _ in range(2)] == [True, False]
     now[0] += 1000
@@ -24,22 +33,36 @@ def test_so_many_at_once_and_then_one_in_so_many_seconds(monkeypatch):
 
 
 def test_it_keeps_so_many_addresses_and_no_more():
-    buckets = Buckets(1, 10.0)
+    buckets = TokenBuckets(1, 10.0)
     for number in range(MOST_KEYS + 10):
         buckets.take(number)
-    assert len(buckets.used) == MOST_KEYS and buckets.is_empty(MOST_KEYS + 9)
+    assert len(buckets.used) == MOST_KEYS and not buckets.take(MOST_KEYS + 9)
 
 
 def test_what_one_guest_has():
-    assert origin_of("192.168.1.7") == "192.168.1.7"
-    assert origin_of("2001:db8:1:2:3:4:5:6") == origin_of("2001:db8:1:2:9:9:9:9") == "2001:db8:1:2"
+    assert origin_of("192.168.1.7") == origin_of("::ffff:192.168.1.7") == "192.168.1.7"
+    # one address, however it is written; and two that begin with the same letters
+    assert origin_of("fd00::1:2:3:4") == origin_of("fd00:0:0:0:1:2:3:4") == origin_of("FD00::1:2:3:4%eth0")
+    assert origin_of("fd00::1:2:3:4") != origin_of("fd00::1:2:9:9")
+    assert network_of(origin_of("fd00::1:2:3:4")) == network_of(origin_of("fd00::9:2:3:4")) == "fd00::/64"
+    assert network_of(origin_of("fd00:0:0:1::4")) == "fd00:0:0:1::/64" and network_of("192.168.1.7") == ""
+    assert origin_of("") == ""
+
+
+def test_a_network_of_ipv6_has_a_limit_too(monkeypatch):
+    monkeypatch.setattr(time, "monotonic", lambda: 1000.0)
+    buckets = OriginBuckets(3, 10.0)
+    assert [buckets.take("fd00::1") for _ in range(4)] == [True, True, True, False]
+    passed = [buckets.take(f"fd00::{host:x}") for host in range(2, 100)]
+    assert passed == [True] * (3 * ADDRESSES_OF_A_NETWORK - 4) + [False] * (98 - 3 * ADDRESSES_OF_A_NETWORK + 4)
+    assert buckets.take("fd00:0:0:1::1") and buckets.take("192.168.1.7")
 
 
 def test_a_lane_is_gone_through_one_after_the_other():
-    lanes, order = Lanes(0.02, 8), []
+    queues, order = DelayQueues(0.02, 8, 8), []
 
     def go(name):
-        with lanes.entered("a"):
+        with queues.entered("a"):
             order.append((name, time.monotonic()))
 
     threads = [threading.Thread(target=go, args=(name,)) for name in range(5)]
@@ -49,31 +72,34 @@ def test_a_lane_is_gone_through_one_after_the_other():
         thread.join()
     times = sorted(at for _, at in order)
     assert len(order) == 5 and all(later - earlier >= 0.015 for earlier, later in zip(times, times[1:]))
-    assert not lanes.waiting and not lanes.turns
+    assert not queues.waiting and not queues.turns
 
 
 def test_a_lane_that_is_full_turns_away_and_others_go_on():
-    lanes, is_free = Lanes(0.0, 2), threading.Event()
+    queues, is_free = DelayQueues(0.0, 2, 3), threading.Event()
 
     def stay():
-        with lanes.entered("a"):
+        with queues.entered("a"):
             is_free.wait(60)
 
     threads = [threading.Thread(target=stay) for _ in range(2)]
     for thread in threads:
         thread.start()
     until = time.monotonic() + 60
-    while lanes.waiting["a"] < 2 and time.monotonic() < until:
+    while queues.waiting["a"] < 2 and time.monotonic() < until:
         time.sleep(0.01)
     with pytest.raises(Crowded):
-        with lanes.entered("a"):
+        with queues.entered("a"):
             pass
-    with lanes.entered("b"):
-        pass
+    # of another one, and then of all
+    with queues.entered("b"):
+        with pytest.raises(Crowded):
+            with queues.entered("c"):
+                pass
     is_free.set()
     for thread in threads:
         thread.join()
-    with lanes.entered("a"):
+    with queues.entered("a"):
         pass
 
 
@@ -96,15 +122,9 @@ def test_so_many_connections_of_one_address():
         clients.append(connected(door, "127.0.0.5"))
         guests.append(door.accept()[0])
         assert door.count == {"127.0.0.5": 2, "127.0.0.6": 1}
-        door.sweep(60)
-        assert len(door.inside) == 3
-        # a guest who came so long ago is shut out
-        door.sweep(-1)
-        clients[1].settimeout(5)
-        assert clients[1].recv(1) == b""
         for one in (*clients, *guests):
             one.close()
-        assert not door.count and not door.inside
+        assert not door.count
 
 
 def test_a_port_that_is_held_is_named():

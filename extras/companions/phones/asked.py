@@ -1,16 +1,18 @@
 """Requests taken apart: what is understood of them, and what is turned down before anything is looked at."""
 from __future__ import annotations
 
+import io
 import re
 import sys
 import urllib.parse
 from dataclasses import dataclass
-from typing import Any, Callable, Dict, Iterable, List, Optional, Set, Tuple
+from functools import lru_cache
+from typing import Any, Callable, Dict, Iterable, Optional
 
-from companions.phones.keeper import Games
 from companions.phones.limits import origin_of
-from companions.phones.pages import REASONS, Reply, rendered
-from companions.phones.texts import language_for
+from companions.phones.pages import REASONS, Reply, plain_in, rendered
+from companions.phones.texts import language_for, quality_of
+from companions.score import Score
 
 MOST_BODY = 2048
 MOST_FIELDS = 12
@@ -29,6 +31,8 @@ class Asked:
     form: Fields
     origin: str
     language: str
+    # of the page that the phone has
+    tag: str = ""
 
 
 class Settled(Exception):
@@ -56,11 +60,14 @@ def fields_of(text: str) -> Optional[Fields]:
     return dict(pairs) if len(dict(pairs)) == len(pairs) else None
 
 
-def games_in(fields: Fields) -> Optional[Games]:
+def score_of(text: str) -> Optional[Score]:
+    """A score as phones say it, or None."""
+    return Score.parse(text) if re.fullmatch("[0-3]-[0-3]-[0-3]", text) else None
+
+
+def score_in(fields: Fields) -> Optional[Score]:
     """The score of a button, or of three counts."""
-    text = fields.get("s") or "-".join(fields.get(name, "") for name in "xyd")
-    found = re.fullmatch("([0-3])-([0-3])-([0-3])", text)
-    return (int(found[1]), int(found[2]), int(found[3])) if found else None
+    return score_of(fields.get("s") or "-".join(fields.get(name, "") for name in "xyd"))
 
 
 def form_of(environ: Environ) -> Optional[Fields]:
@@ -73,15 +80,25 @@ def form_of(environ: Environ) -> Optional[Fields]:
     return fields_of(environ["wsgi.input"].read(int(length)).decode("latin-1"))
 
 
+def is_gzip_taken(accepted: str) -> bool:
+    """By the field Accept-Encoding (RFC 9110, section 12.5.3)."""
+    for part in accepted[:200].split(","):
+        coding, _, parameters = part.strip().partition(";")
+        if coding.strip().lower() == "gzip":
+            return quality_of(parameters) > 0
+    return False
+
+
 class Pages:
     """What phones and scorekeeper share: requests taken apart, and answers put together."""
 
-    def __init__(self, hosts: Set[str]):
+    def __init__(self, hosts: set[str]):
         self.hosts = hosts
 
     def __call__(self, environ: Environ, start_response: Callable[..., object]) -> Iterable[bytes]:
         language = language_for(environ.get("HTTP_ACCEPT_LANGUAGE", ""))
         try:
+            self.admit(environ, language)
             reply = self.reply(self.taken_apart(environ, language))
         except Settled as settled:
             reply = settled.reply
@@ -90,8 +107,20 @@ class Pages:
             shown = f"{type(fault).__name__} at {ascii(environ.get('PATH_INFO', ''))[:80]}"
             print(f"event-phones: {shown}: {ascii(str(fault))[:200]}", file=sys.stderr, flush=True)
             reply = self.told(500, language, "went_wrong")
-        start_response(f"{reply.status} {REASONS[reply.status]}", reply.headers())
-        return [b"" if environ["REQUEST_METHOD"] == "HEAD" else reply.body]
+        if reply.tag and environ.get("HTTP_IF_NONE_MATCH") == reply.tag:
+            start_response(f"304 {REASONS[304]}", reply.tag_headers())
+            return []
+        takes_gzip = is_gzip_taken(environ.get("HTTP_ACCEPT_ENCODING", ""))
+        start_response(f"{reply.status} {REASONS[reply.status]}", reply.headers(takes_gzip))
+        if environ["REQUEST_METHOD"] == "HEAD":
+            return [b""]
+        body = reply.body_for(takes_gzip)
+        # the server would copy a body for each connection, but not what it reads as a file
+        as_file: Optional[Callable[[io.BytesIO], Iterable[bytes]]] = environ.get("wsgi.file_wrapper")
+        return as_file(io.BytesIO(body)) if as_file and reply.gzipped else [body]
+
+    def admit(self, environ: Environ, language: str) -> None:
+        """What is asked too often is settled before anything is looked at."""
 
     def taken_apart(self, environ: Environ, language: str) -> Asked:
         method = environ["REQUEST_METHOD"]
@@ -103,7 +132,8 @@ class Pages:
         if query is None or form is None:
             raise Settled(self.told(400, language, "not_understood"))
         origin = origin_of(environ.get("REMOTE_ADDR", ""))
-        return Asked(method, environ.get("PATH_INFO", ""), query, form, origin, language)
+        tag = environ.get("HTTP_IF_NONE_MATCH", "")
+        return Asked(method, environ.get("PATH_INFO", ""), query, form, origin, language, tag)
 
     def form(self, environ: Environ, language: str) -> Optional[Fields]:
         """What is handed in, which comes from pages of this place alone."""
@@ -117,23 +147,23 @@ class Pages:
     def told(self, status: int, language: str, *keys: str) -> Reply:
         """What is said in place of a page."""
         more = [("Retry-After", "60")] if status == 429 else []
-        return Reply(status, self.page_told(language, keys), more)
-
-    def page_told(self, language: str, keys: Tuple[str, ...]) -> bytes:
-        return rendered("told.html", language, heading=self.heading(language), clock="", keys=keys)
-
-    def heading(self, language: str) -> object:
-        raise NotImplementedError
+        return Reply(status, page_told(language, keys), more)
 
     def reply(self, asked: Asked) -> Reply:
         raise NotImplementedError
 
 
-def hosts_of(at: str, port: int) -> Set[str]:
+@lru_cache(maxsize=None)
+def page_told(language: str, keys: tuple[str, ...]) -> bytes:
+    """Made once, so that to refuse takes nothing."""
+    return rendered("told.html", language, heading=plain_in(language, "scores"), clock="", keys=keys)
+
+
+def hosts_of(at: str, port: int) -> set[str]:
     """What may stand in the field Host: the address on the slips, and this machine."""
     parts = urllib.parse.urlsplit(at)
     default = 443 if parts.scheme == "https" else 80
-    hosts: List[str] = [parts.netloc.lower(), f"127.0.0.1:{port}", f"localhost:{port}", f"[::1]:{port}"]
+    hosts: list[str] = [parts.netloc.lower(), f"127.0.0.1:{port}", f"localhost:{port}", f"[::1]:{port}"]
     if parts.port is None:
         hosts.append(f"{parts.netloc.lower()}:{default}")
     elif parts.port == default:

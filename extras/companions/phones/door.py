@@ -1,14 +1,13 @@
-"""The socket at which phones are let in: so many connections of one address, and none for ever."""
+"""The socket at which phones are let in: so many connections of one address."""
 from __future__ import annotations
 
 import collections
-import contextlib
+import errno
 import socket
 import threading
-import time
-from typing import Any, Callable, Dict, Optional, Tuple
+from typing import Any, Callable, Optional
 
-from companions.phones.limits import origin_of
+from companions.phones.limits import ADDRESSES_OF_A_NETWORK, network_of, origin_of
 from companions.program import Declined
 
 NO_LIMIT = 1_000_000_000
@@ -31,41 +30,39 @@ class Door(socket.socket):
         super().__init__(family, socket.SOCK_STREAM)
         self.most_of_one = most_of_one
         self.lock = threading.Lock()
-        self.inside: Dict[int, Tuple[float, Guest]] = {}
         self.count: collections.Counter[str] = collections.Counter()
 
-    def accept(self) -> Tuple[socket.socket, Any]:
+    def accept(self) -> tuple[socket.socket, Any]:
         plain, address = super().accept()
-        handle = plain.fileno()
         guest = Guest(self.family, self.type, self.proto, fileno=plain.detach())
         origin = origin_of(address[0])
         with self.lock:
-            is_full = self.count[origin] >= self.most_of_one
+            is_full = any(self.count[key] >= most for key, most in self.limits(origin))
             if not is_full:
-                self.count[origin] += 1
-                self.inside[handle] = time.monotonic(), guest
+                self.count.update(key for key, _ in self.limits(origin))
         if is_full:
             guest.close()
             # the server goes on as if nobody had come
             raise BlockingIOError(11, "too many of one address")
-        guest.gone = lambda: self.left(handle, origin)
+        guest.gone = lambda: self.left(origin)
         return guest, address
 
-    def left(self, handle: int, origin: str) -> None:
-        with self.lock:
-            self.inside.pop(handle, None)
-            self.count[origin] -= 1
-            if not self.count[origin]:
-                del self.count[origin]
+    def limits(self, origin: str) -> list[tuple[str, int]]:
+        """What it is counted by, and how many may be inside: its address, and its network if it has one."""
+        network = network_of(origin)
+        wide = [(network, self.most_of_one * ADDRESSES_OF_A_NETWORK)] if network else []
+        return [(origin, self.most_of_one), *wide]
 
-    def sweep(self, seconds: float) -> None:
-        """A guest who came so long ago is shut out, however slowly the bytes come."""
-        before = time.monotonic() - seconds
+    def left(self, origin: str) -> None:
         with self.lock:
-            old = [guest for since, guest in self.inside.values() if since < before]
-        for guest in old:
-            with contextlib.suppress(OSError):
-                guest.shutdown(socket.SHUT_RDWR)
+            for key, _ in self.limits(origin):
+                self.count[key] -= 1
+                if not self.count[key]:
+                    del self.count[key]
+
+
+class AnotherMachines(Declined):
+    """The address is none of this machine's."""
 
 
 def door_at(host: str, port: int, most_of_one: int, word: str) -> Door:
@@ -75,5 +72,9 @@ def door_at(host: str, port: int, most_of_one: int, word: str) -> Door:
         door.bind((host, port))
     except OSError as fault:
         door.close()
+        # the errors of a name that leads nowhere have numbers of their own
+        if isinstance(fault, socket.gaierror) or fault.errno == errno.EADDRNOTAVAIL:
+            told = f"{host} is no address of this machine: `hostname -I` names them."
+            raise AnotherMachines(told) from None
         raise Declined(f"{host}, port {port}, can't be listened at: {fault.strerror}.\n{word}") from None
     return door

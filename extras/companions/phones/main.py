@@ -3,13 +3,14 @@ from __future__ import annotations
 
 import argparse
 import importlib.util
+import os
 import sys
 import time
-from typing import List, Optional, Tuple
+from typing import Optional
 
 from companions.arguments import add_program, address_word, count_word, minutes_word, port_word
 from companions.clock import Clock, keep_clock
-from companions.phones.codes import secret_for
+from companions.codes import kept_secret, secret_for
 from companions.program import Declined, ready
 
 COMMAND = "event-phones"
@@ -19,9 +20,10 @@ MOST_CONNECTIONS_OF_ONE = 24
 
 HELP = """\
 Takes scores from the players' phones. A player scans the code on the result
-slip, taps the score, and looks at it once more. The scorekeeper goes on at the
-prompt (event-desk) meanwhile, and sees there what came in. FILE is the event's
-file. It listens in the room's network, and needs no other.
+slip, taps the score, and looks at it once more; or scans once a page of his
+own, which shows each round's table and takes its score. The scorekeeper goes on
+at the prompt (event-desk) meanwhile, and sees there what came in. FILE is the
+event's file. It listens in the room's network, and needs no other.
 """
 
 EXAMPLES = """\
@@ -32,18 +34,21 @@ an evening:
       was answered is lost. The next time: event-phones friday.event
   event-sheets friday.event --parts slips
       the slips of the open tables, with their codes: print them
+  event-sheets friday.event --parts links
+      a strip for each player, with the player's page: print once, and cut
   event-phones friday.event --clock 50
       starts a clock of 50 minutes on phones and board, as the prompt's clock 50
 
-Beside FILE it keeps FILE.phones, the address and the key of the codes, and
+Beside FILE it keeps FILE.phones, the address and the key of the codes;
 FILE.reports, a line for each score that was handed in, with the phone's
-address: delete it after the event.
+address: delete it after the event; and FILE.troubles while it serves.
 """
 
 # what it is served and shown by, and the packages that have them
 NEEDED = (("waitress", "python3-waitress"), ("jinja2", "python3-jinja2"))
 # what draws the codes on the slips; without it they are typed
 USEFUL = (("segno", "python3-segno"),)
+PYTHON_OF_DEBIAN = "/usr/bin/python3"
 
 
 def parser() -> argparse.ArgumentParser:
@@ -89,13 +94,22 @@ def start_clock(file: str, minutes: int) -> None:
     print(clock.shown(time.time()))
 
 
-def missing_packages() -> List[str]:
+def missing_packages() -> list[str]:
     """What has to be installed, with what is useful beside it; nothing where it goes on without."""
 
-    def missing(packages: Tuple[Tuple[str, str], ...]) -> List[str]:
+    def missing(packages: tuple[tuple[str, str], ...]) -> list[str]:
         return [package for module, package in packages if importlib.util.find_spec(module) is None]
 
     return missing(NEEDED + USEFUL) if missing(NEEDED) else []
+
+
+def not_installed(packages: list[str]) -> str:
+    """What Debian installs is for Debian's Python, and another one may come first on the path."""
+    line = f"sudo apt-get install {' '.join(packages)}"
+    told = f"It needs what is not installed for {sys.executable}. On Debian:\n{line}"
+    if os.path.realpath(sys.executable) == os.path.realpath(PYTHON_OF_DEBIAN):
+        return told
+    return f"{told}\nand then by Debian's Python: {PYTHON_OF_DEBIAN} {sys.argv[0]} .."
 
 
 def run(words: argparse.Namespace) -> int:
@@ -104,18 +118,19 @@ def run(words: argparse.Namespace) -> int:
         return 0
     missing = missing_packages()
     if missing:
-        raise Declined(
-            "It needs what is not installed here. On Debian:\n" f"sudo apt-get install {' '.join(missing)}"
-        )
-    from companions.phones.serving import must_be_alone, serve
+        raise Declined(not_installed(missing))
+    from companions.phones.addresses import NOT_KNOWN, address_chosen
+    from companions.phones.kept_codes import must_be_alone
+    from companions.phones.serving import serve
 
     program = ready(words.program)
-    # another one that serves would be ended by another address or switch
     must_be_alone(words.file)
-    return serve(words, program, secret_for(words.file, words.at, words.both))
+    kept = kept_secret(words.file)
+    at = words.at or (kept.at if kept else address_chosen(NOT_KNOWN))
+    return serve(words, program, secret_for(words.file, at, words.both))
 
 
-def main(arguments: Optional[List[str]] = None) -> int:
+def main(arguments: Optional[list[str]] = None) -> int:
     words = parser().parse_args(arguments)
     try:
         return run(words)

@@ -2,43 +2,55 @@
 from __future__ import annotations
 
 import argparse
-import fcntl
+import contextlib
+import ctypes
 import logging
-import os
 import re
 import threading
 import time
 import urllib.parse
-from typing import IO, Any, Dict, List, Tuple
+from dataclasses import replace
+from typing import Any, Callable
 
-from companions.phones.asked import Pages, hosts_of
-from companions.phones.codes import Secret, path_of
+from companions.codes import Secret
+from companions.phones.addresses import address_chosen, is_of_this_machine_alone
+from companions.phones.asked import hosts_of
+from companions.phones.cache import SECONDS_BETWEEN_READINGS, EventCache
 from companions.phones.desk_page import Desk
-from companions.phones.door import NO_LIMIT, Door, door_at
-from companions.phones.keeper import MOST_WAITING, SECONDS_BETWEEN_TRIES, SECONDS_FOR_A_SCORE, Keeper
-from companions.phones.looking import Looking
-from companions.phones.site import Site
+from companions.phones.door import NO_LIMIT, AnotherMachines, Door, door_at
+from companions.phones.kept_codes import KeptCodes
+from companions.phones.score_queue import MOST_WAITING, SECONDS_BETWEEN_TRIES, SECONDS_FOR_A_SCORE, ScoreQueue
+from companions.phones.site import REPORTS, Site
 from companions.program import Declined
 from companions.reports import Reports
+from companions.troubles import ENDED, Troubles
 
 THREADS, THREADS_OF_THE_DESK = MOST_WAITING + 32, 4
 MOST_CONNECTIONS, MOST_CONNECTIONS_OF_ONE = 700, 24
+# a connection ends that sends nothing for so long, and one that sends no whole request in so long
 SECONDS_OF_SILENCE, SECONDS_OF_A_CONNECTION, SECONDS_BETWEEN_SWEEPS = 10, 40, 2
+# proxies keep connections, caddy for two minutes: one that ends here first would fail the next guest
+SECONDS_OF_SILENCE_OF_A_PROXY = 180
 MOST_HEAD, MOST_BODY = 8192, 2048
 # each thread has a stack of this many bytes in place of the system's eight megabytes
 BYTES_OF_A_STACK = 512 * 1024
+# of glibc's mallopt, and how many arenas of memory all threads share
+M_ARENA_MAX, ARENAS = -8, 2
 
-NEW_EVENT = """\
-The codes are put away: a new event began here, or FILE.phones was moved. Start
-event-phones again, and print slips again."""
+# what is said where an address reaches no further
+ONLY_HERE = "No phone reaches this: it is this machine alone. Name another address by --at.\n"
 
 
-def host_and_port(text: str, default: int) -> Tuple[str, int]:
-    host, _, port = text.rpartition(":") if re.search(r":\d+$", text) else (text, "", str(default))
+def host_and_port(text: str, default: int) -> tuple[str, int]:
+    """An address of IPv6 has a port only after its brackets."""
+    is_bare = text.count(":") > 1 and not text.startswith("[")
+    if is_bare or not re.search(r":[0-9]+$", text):
+        return text.strip("[]"), default
+    host, _, port = text.rpartition(":")
     return host.strip("[]"), int(port)
 
 
-def place_of(words: argparse.Namespace, secret: Secret) -> Tuple[str, int]:
+def place_of(words: argparse.Namespace, secret: Secret) -> tuple[str, int]:
     """Where to listen: what was said, or what stands on the slips."""
     if words.listen:
         return host_and_port(words.listen, 8080)
@@ -46,7 +58,7 @@ def place_of(words: argparse.Namespace, secret: Secret) -> Tuple[str, int]:
     return host_and_port(parts.netloc, 443 if parts.scheme == "https" else 80)
 
 
-def strict_channel() -> Any:
+def strict_channel(now: Callable[[], float]) -> Any:
     """What reads requests. No browser sends a form in chunks, and a proxy may read them otherwise than
     waitress, so they are answered 400.
     """
@@ -64,13 +76,47 @@ def strict_channel() -> Any:
     class StrictChannel(HTTPChannel):
         parser_class: Any = StrictParser
 
+        def __init__(self, *given: Any, **more: Any):
+            super().__init__(*given, **more)
+            # when it came, or its last whole request did
+            self.since = now()
+
+        def service(self) -> None:
+            self.since = now()
+            super().service()
+
     return StrictChannel
 
 
-def server_of(pages: Pages, door: Door, threads: int, behind_proxy: bool) -> Any:
+def shut_out_after(server: Any, seconds: float, now: Callable[[], float]) -> None:
+    """Shuts out who has sent no whole request for so long, however slowly the bytes come, and nobody who
+    waits for an answer. The thread that reads does so: meanwhile no request becomes whole.
+    """
+    is_readable, due = server.readable, now()
+
+    def readable() -> Any:
+        nonlocal due
+        if now() >= due:
+            due = now() + SECONDS_BETWEEN_SWEEPS
+            for channel in server.active_channels.values():
+                if not channel.requests and channel.since < now() - seconds:
+                    channel.will_close = True
+        return is_readable()
+
+    server.readable = readable
+
+
+def server_of(
+    pages: Callable[..., Any],
+    door: Door,
+    threads: int,
+    behind_proxy: bool,
+    now: Callable[[], float] = time.monotonic,
+) -> Any:
+    """Now: the seconds of a clock that nobody sets."""
     import waitress
 
-    trusted: Dict[str, Any] = {}
+    trusted: dict[str, Any] = {}
     if behind_proxy:
         trusted = {
             "trusted_proxy": "127.0.0.1",
@@ -82,7 +128,7 @@ def server_of(pages: Pages, door: Door, threads: int, behind_proxy: bool) -> Any
         sockets=[door],
         threads=threads,
         connection_limit=MOST_CONNECTIONS,
-        channel_timeout=SECONDS_OF_SILENCE,
+        channel_timeout=SECONDS_OF_SILENCE_OF_A_PROXY if behind_proxy else SECONDS_OF_SILENCE,
         cleanup_interval=5,
         max_request_header_size=MOST_HEAD,
         max_request_body_size=MOST_BODY,
@@ -94,92 +140,103 @@ def server_of(pages: Pages, door: Door, threads: int, behind_proxy: bool) -> Any
         expose_tracebacks=False,
         **trusted,
     )
-    server.channel_class = strict_channel()
+    server.channel_class = strict_channel(now)
+    if not behind_proxy:
+        shut_out_after(server, SECONDS_OF_A_CONNECTION, now)
     return server
 
 
-def locked(file: str) -> IO[bytes]:
-    """FILE.phones, locked for as long as this process serves the file."""
-    kept = open(path_of(file), "rb")
-    try:
-        fcntl.flock(kept, fcntl.LOCK_EX | fcntl.LOCK_NB)
-    except BlockingIOError:
-        kept.close()
-        raise Declined(
-            f"Another event-phones serves {file} already. End it by Ctrl-C in its window first."
-        ) from None
-    except OSError:
-        # a file system without locks
-        pass
-    return kept
-
-
-def must_be_alone(file: str) -> None:
-    if os.path.exists(path_of(file)):
-        locked(file).close()
-
-
-def read_first(looking: Looking) -> None:
+def read_first(cache: EventCache) -> None:
     """The event has to be there. What was killed just before may have it for a moment."""
     until = time.monotonic() + SECONDS_FOR_A_SCORE
-    while not looking.read():
-        if time.monotonic() > until or "refused 27" in looking.fault:
-            raise Declined(looking.fault)
+    while not cache.read():
+        if time.monotonic() > until or "refused 27" in cache.fault:
+            raise Declined(cache.fault)
         time.sleep(SECONDS_BETWEEN_TRIES)
+
+
+def opened_for_phones(words: argparse.Namespace, secret: Secret) -> tuple[Secret, Door]:
+    """The door at the address, or at one that is chosen in its place where it is another machine's."""
+    most_of_one = NO_LIMIT if words.behind_proxy else words.from_one
+
+    def opened(secret: Secret) -> tuple[Secret, Door]:
+        host, port = place_of(words, secret)
+        shown = f"[{host}]" if ":" in host else host
+        word = f"Another port, as: --at http://{shown}:{port_beside(port)}"
+        return secret, door_at(host, port, most_of_one, word)
+
+    try:
+        return opened(secret)
+    except AnotherMachines as fault:
+        if words.listen:
+            raise
+        return opened(replace(secret, at=address_chosen(str(fault), place_of(words, secret)[1])))
+
+
+def port_beside(port: int) -> int:
+    return port + 1 if 1024 < port < 65535 else 8080
+
+
+def share_arenas() -> None:
+    """By itself the C library gives threads arenas of their own, each of which keeps what was freed."""
+    with contextlib.suppress(OSError, AttributeError):
+        ctypes.CDLL(None).mallopt(M_ARENA_MAX, ARENAS)
 
 
 def serve(words: argparse.Namespace, program: str, secret: Secret) -> int:
     logging.getLogger("waitress").setLevel(logging.ERROR)
     threading.stack_size(BYTES_OF_A_STACK)
-    lock = locked(words.file)
-    looking, reports = Looking(program, words.file, words.title), Reports(words.file)
-    read_first(looking)
-    host, port = place_of(words, secret)
-    front = door_at(
-        host,
-        port,
-        NO_LIMIT if words.behind_proxy else words.from_one,
-        "Is it this machine's address (hostname -I), and the port free? Another one, as:\n"
-        f"--at http://{host}:{port + 1 if port > 1024 else 8080}",
-    )
-    back = door_at("127.0.0.1", words.desk, NO_LIMIT, f"Another port, as: --desk {words.desk + 1}")
-    port, desk_port = front.getsockname()[1], back.getsockname()[1]
-    keeper = Keeper(program, words.file)
+    share_arenas()
+    cache, reports = EventCache(program, words.file, words.title), Reports(words.file)
+    running = cache.running
+    read_first(cache)
+    secret, front = opened_for_phones(words, secret)
+    back = door_at("127.0.0.1", words.desk, NO_LIMIT, f"Another port, as: --desk {port_beside(words.desk)}")
+    # what is kept has been tried
+    codes = cache.codes = KeptCodes(words.file, secret)
+    (host, port), desk_port = front.getsockname()[:2], back.getsockname()[1]
+    cache.troubles = Troubles(words.file)
+    queue = ScoreQueue(program, words.file, running, cache.troubles)
     share = words.from_one / MOST_CONNECTIONS_OF_ONE
-    site = Site(looking, reports, secret, hosts_of(secret.at, port), keeper, share)
-    desk = Desk(looking, reports, site, {f"127.0.0.1:{desk_port}", f"localhost:{desk_port}"})
+    site = Site(cache, reports, secret, hosts_of(secret.at, port), queue, share)
+    desk = Desk(cache, reports, site, {f"127.0.0.1:{desk_port}", f"localhost:{desk_port}"})
     servers = [
         server_of(site, front, THREADS, words.behind_proxy),
         server_of(desk, back, THREADS_OF_THE_DESK, False),
     ]
-    begin(looking, reports, front, servers)
+    begin(cache, reports, servers)
     where = f"{host}, port {port}"
+    alone = ONLY_HERE if is_of_this_machine_alone(secret.at) else ""
     print(
-        f"Phones: {secret.at} (listening at {where})\n"
+        f"Phones: {secret.at} (listening at {where})\n{alone}"
         f"Scorekeeper: http://127.0.0.1:{desk_port}/\n"
-        "Slips with codes, at the prompt: print slips\n"
+        "At the prompt: print slips; or print links, a page for each player\n"
         "Ctrl-C ends; what was answered is in the file.",
         flush=True,
     )
     try:
-        looking.is_ended.wait()
+        running.is_over.wait()
+        cache.troubles.tell("end", f"{ENDED}. {running.why}")
+    except KeyboardInterrupt:
+        cache.troubles.end()
+        raise
     finally:
-        looking.is_ended.set()
-        lock.close()
-    raise Declined(NEW_EVENT.replace("FILE", words.file))
+        codes.close()
+    raise Declined(running.why)
 
 
-def begin(looking: Looking, reports: Reports, front: Door, servers: List[Any]) -> None:
+def begin(cache: EventCache, reports: Reports, servers: list[Any]) -> None:
     """Starts the threads that go on until the process ends."""
-
-    def sweep() -> None:
-        while not looking.is_ended.wait(SECONDS_BETWEEN_SWEEPS):
-            front.sweep(SECONDS_OF_A_CONNECTION)
+    running = cache.running
 
     def look_at_reports() -> None:
-        # the prompt writes there too
-        while not looking.is_ended.wait(SECONDS_BETWEEN_SWEEPS):
+        while not running.is_over.wait(SECONDS_BETWEEN_READINGS):
+            # the prompt writes there too
             reports.more()
+            if reports.unwritten and reports.write_again():
+                cache.troubles.over(REPORTS)
 
-    for work in (looking.go_on, sweep, look_at_reports, *(server.run for server in servers)):
-        threading.Thread(target=work, daemon=True).start()
+    running.begin("reads the event", cache.go_on)
+    running.begin("reads the reports", look_at_reports)
+    for name, server in zip(("serves phones", "serves the scorekeeper"), servers):
+        running.begin(name, server.run)

@@ -1,46 +1,94 @@
 """What the phones see. It never sends the program anything but a result."""
 from __future__ import annotations
 
-import contextlib
 import re
 import sys
 import threading
 import time
 from dataclasses import dataclass, replace
-from typing import Callable, Dict, Iterator, Optional, Set, Tuple
+from typing import Any, Callable, Hashable, Optional
 
 from companions.clock import Clock
+from companions.codes import FIRST_SEAT, SECOND_SEAT, TABLE, Secret
+from companions.draw import NONE, DrawText, shown_digits
+from companions.drawn import rule_of_event, shut_now, text_of_round
+from companions.draws import Draws
+from companions.entries import Entries, NotEntered
 from companions.lists import Match, Player
 from companions.names import found_by
-from companions.phones.asked import Asked, Fields, Pages, Settled, games_in
-from companions.phones.codes import FIRST_SEAT, SECOND_SEAT, TABLE, Secret
-from companions.phones.keeper import Answer, Games, Keeper, NotNow
-from companions.phones.limits import Buckets, Crowded, Lanes
-from companions.phones.looking import Looking, Picture
-from companions.phones.pages import POLICY_OF_BOARD, Reply, named, plain_in, rendered, style_reply, text_in
+from companions.phones.asked import Asked, Environ, Pages, Settled, score_in, score_of
+from companions.phones.at_table import AtTable, Link, Typed, drops_in, link_in, said_in, typed_in
+from companions.phones.cache import EventCache, Snapshot
+from companions.phones.kept_pages import KeptPages, Shown
+from companions.phones.limits import Crowded, DelayQueues, OriginBuckets, TokenBuckets, origin_of
+from companions.phones.me import me_of
+from companions.phones.pages import (
+    POLICY,
+    POLICY_OF_BOARD,
+    Reply,
+    named,
+    plain_in,
+    rendered,
+    style_reply,
+    tag_of,
+    text_in,
+)
+from companions.phones.score_queue import Answer, NotNow, ScoreQueue
+from companions.phones.texts import DEFAULT
 from companions.program import Refusal
-from companions.reports import OTHER, SAME, STORED, TIME, WAITS, Report, Reports, half_said
+from companions.reports import (
+    CALLS,
+    CALLS_OFF,
+    HOME,
+    NO_SCORE,
+    OTHER,
+    SAME,
+    STAYS,
+    STORED,
+    TIME,
+    WAITS,
+    Full,
+    Report,
+    Reports,
+    going_home,
+    half_said,
+    judge_call,
+)
+from companions.rosters import tidy
+from companions.score import Score
+from companions.working import part_shown, share_shown, working_of
 
 MOST_FOUND = 20
-# so many at once, and then one in so many seconds: requests of an address without the right code, wrong codes
-# of an address, what is asked at a table with its code, and scores handed in there
+# a page on which nothing is entered loads itself again
+SECONDS_TO_RELOAD = 20
+# so many at once, and then one in so many seconds: requests of an address without the right code, the board
+# among them, which is long; wrong codes of an address; what is asked at a table with its code; and scores
+# handed in there
 REQUESTS_OF_ONE = 120, 0.1
+BOARDS_OF_ONE = 20, 2.0
 WRONG_CODES = 20, 3.0
 REQUESTS_OF_A_TABLE = 60, 1.0
 SCORES_OF_A_TABLE = 8, 10.0
-# codes from an address with too many wrong ones are looked at one after the other, so far apart; so many wait
-SECONDS_IN_A_LANE, MOST_IN_A_LANE = 0.1, 20
+# names that an address enters
+NAMES_OF_ONE = 5, 60.0
+# more wrong codes of an address are answered one after the other, so far apart; so many wait, and of all
+# addresses so many, since each that waits takes a thread
+SECONDS_BETWEEN_CODES, MOST_WITH_CODES, MOST_WITH_CODES_IN_ALL = 0.1, 8, 32
+
+
+# what goes wrong with FILE.reports, among the troubles
+REPORTS = "reports"
+# and with FILE.entries
+ENTRIES = "entries"
 
 
 @dataclass(frozen=True)
-class Score:
+class NamedScore:
     """A score as a page shows it, beside the two names."""
 
     first: Player
     second: Player
-    games: str
-    others: str
-    drawn: str
+    games: Score
 
 
 @dataclass(frozen=True)
@@ -51,83 +99,104 @@ class Row:
 
 
 @dataclass(frozen=True)
-class AtTable:
-    """A request at a table with its code: who asks, and what was known then."""
+class DrawRow:
+    """A text that can be read: of which round and drawing, and what is said of it."""
 
-    asked: Asked
-    picture: Picture
-    number: int
-    match: Match
-    seat: int
-    target: str
-
-
-def text_of(games: Games) -> str:
-    return "-".join(map(str, games))
+    round: int
+    drawing: int
+    shown: str
 
 
 class Site(Pages):
     def __init__(
         self,
-        looking: Looking,
+        cache: EventCache,
         reports: Reports,
         secret: Secret,
-        hosts: Set[str],
-        keeper: Keeper,
+        hosts: set[str],
+        queue: ScoreQueue,
         share: float = 1.0,
     ):
         """Share: how many phones stand behind one address, beside one guest alone."""
         super().__init__(hosts)
-        self.looking, self.reports, self.secret, self.keeper = looking, reports, secret, keeper
+        self.cache, self.reports, self.secret, self.queue = cache, reports, secret, queue
         most, seconds = REQUESTS_OF_ONE
-        self.requests = Buckets(most * share, seconds / share)
-        self.wrong = Buckets(*WRONG_CODES)
-        self.at_tables = Buckets(*REQUESTS_OF_A_TABLE)
-        self.handed = Buckets(*SCORES_OF_A_TABLE)
-        self.lanes = Lanes(SECONDS_IN_A_LANE, MOST_IN_A_LANE)
+        self.requests = OriginBuckets(most * share, seconds / share)
+        self.wrong = OriginBuckets(*WRONG_CODES)
+        self.at_tables = TokenBuckets(*REQUESTS_OF_A_TABLE)
+        self.handed = TokenBuckets(*SCORES_OF_A_TABLE)
+        self.entries = Entries(cache.file)
+        self.entering = OriginBuckets(NAMES_OF_ONE[0] * share, NAMES_OF_ONE[1] / share)
+        self.delays = DelayQueues(SECONDS_BETWEEN_CODES, MOST_WITH_CODES, MOST_WITH_CODES_IN_ALL)
         # one seat says its score at a time, so that of two who say the same one comes second
         self.saying = threading.Lock()
         self.wrong_codes = 0
-        self.kept: Dict[Tuple[str, str], Tuple[object, bytes]] = {}
-        self.lists: Dict[str, Callable[[Picture, str], bytes]] = {
+        self.kept = KeptPages()
+        # of each player's own page what it showed last, and its tag
+        self.own_pages: dict[Hashable, tuple[Hashable, str]] = {}
+        self.boards = OriginBuckets(BOARDS_OF_ONE[0] * share, BOARDS_OF_ONE[1] / share)
+        self.lists: dict[str, Callable[[Snapshot, str], bytes]] = {
             "/pairings": self.pairings,
             "/standings": self.standings,
+            "/draw": self.draw,
             "/board": self.board,
         }
 
+    def admit(self, environ: Environ, language: str) -> None:
+        """With a right code requests are counted by table or player, and all others by address."""
+        path = environ.get("PATH_INFO", "")
+        typed, link = typed_in(path), link_in(path)
+        if typed and self.seat_at(self.cache.now, typed) is not None:
+            is_admitted = self.at_tables.take((typed.round, typed.table))
+        elif link and self.player_of(self.cache.now, link):
+            is_admitted = self.at_tables.take(link.number)
+        else:
+            is_admitted = self.requests.take(origin_of(environ.get("REMOTE_ADDR", "")))
+        if not is_admitted:
+            raise Settled(self.told(429, language, "slower"))
+
     def reply(self, asked: Asked) -> Reply:
-        at = re.fullmatch(r"/[tT]/([0-9]{1,3})/([0-9]{1,3})/([A-Za-z-]{8,12})", asked.path)
-        if at:
-            return self.with_code(asked, int(at[1]), int(at[2]), at[3])
-        if not self.requests.take(asked.origin):
-            raise Settled(self.told(429, asked.language, "slower"))
+        typed = typed_in(asked.path)
+        if typed:
+            return self.with_code(asked, typed)
+        link = link_in(asked.path)
+        if link:
+            return self.with_link(asked, link)
         if asked.path == "/style.css" and asked.method != "POST":
             return style_reply()
         if asked.path == "/":
             return self.typed(asked) if asked.method == "POST" else self.start(asked)
+        if asked.path == "/enter":
+            return self.enter(asked)
         if asked.path in self.lists and asked.method != "POST":
-            return self.list(asked.path, asked.language)
+            return self.list(asked)
+        text = re.fullmatch(r"/draw/(next|[0-9]{1,2}(?:/[0-9]{1,4})?)", asked.path)
+        if text and asked.method != "POST":
+            return self.draw_text(asked, text[1])
+        who = re.fullmatch("/who/([0-9]{1,3})", asked.path)
+        if who and asked.method != "POST":
+            return self.who(asked, int(who[1]))
         return self.told(404, asked.language, "no_page")
 
     # ---- the start, and lists
 
     def heading(self, language: str) -> object:
-        picture = self.looking.now
-        event = named(picture.title)
-        return text_in(language, "round", event=event, number=picture.number) if picture.number else event
+        snapshot = self.cache.now
+        event = named(snapshot.title)
+        return text_in(language, "round", event=event, number=snapshot.number) if snapshot.number else event
 
     def clock(self, language: str) -> str:
-        return clock_shown(self.looking.clock, time.time(), language)
+        return clock_shown(self.cache.clock, time.time(), language)
 
     def page(self, name: str, language: str, status: int = 200, **words: object) -> Reply:
-        shown = {"heading": self.heading(language), "clock": self.clock(language), **words}
+        shown = {"heading": self.heading(language), "clock": self.clock(language), "me": "", **words}
         return Reply(status, rendered(name, language, **shown))
 
     def start(self, asked: Asked, is_wrong: bool = False) -> Reply:
-        picture = self.looking.now
+        snapshot = self.cache.now
         wanted = asked.query.get("q", "").strip()[:60]
-        found = found_by(wanted, picture.by_name, lambda player: player.name) if wanted else []
-        rows = [row_of(picture, player) for player in found[:MOST_FOUND]]
+        found = found_by(wanted, snapshot.by_name, lambda player: player.name) if wanted else []
+        rows = [row_of(snapshot, player) for player in found[:MOST_FOUND]]
         return self.page(
             "start.html",
             asked.language,
@@ -136,107 +205,266 @@ class Site(Pages):
             rows=rows,
             more=len(found) - len(rows),
             is_wrong=is_wrong,
+            may_enter=self.entries.is_on,
         )
 
-    def list(self, path: str, language: str) -> Reply:
-        """A page that is made once for each picture, and each minute of the clock."""
-        picture, clock = self.looking.now, self.clock(language)
-        made_for, body = self.kept.get((path, language), (None, b""))
-        if made_for != (picture.version, clock):
-            body = self.lists[path](picture, language)
-            self.kept[path, language] = (picture.version, clock), body
-        return Reply(200, body, policy=POLICY_OF_BOARD) if path == "/board" else Reply(200, body)
+    # ---- names before they are enrolled
 
-    def pairings(self, picture: Picture, language: str) -> bytes:
-        rows = [row_of(picture, player) for player in picture.by_name if player.number in picture.seats]
-        return self.page("pairings.html", language, rows=rows).body
+    def enter(self, asked: Asked) -> Reply:
+        """A name for the scorekeeper, who enrols the player or doesn't."""
+        if not self.entries.is_on:
+            return self.told(409, asked.language, "entering_is_off")
+        if asked.method != "POST":
+            return self.page("enter.html", asked.language, is_done=asked.query.get("done") == "1", fault="")
+        if not self.entering.take(asked.origin):
+            raise Settled(self.told(429, asked.language, "too_many_names"))
+        try:
+            self.entries.add(tidy(asked.form.get("name", "")), asked.origin)
+        except NotEntered as fault:
+            return self.page("enter.html", asked.language, 409, is_done=False, fault=fault.key)
+        except OSError as fault:
+            self.cache.troubles.tell(ENTRIES, f"{self.entries.path} can't be written: {fault.strerror}.")
+            return self.told(503, asked.language, "list_is_full")
+        self.cache.troubles.over(ENTRIES)
+        return Reply(303, b"", [("Location", "/enter?done=1")])
 
-    def standings(self, picture: Picture, language: str) -> bytes:
-        rows, number = picture.standings, picture.event.complete_rounds()
+    def list(self, asked: Asked) -> Reply:
+        """A page that is the same for all, and that one thread makes for them."""
+        path, language = asked.path, asked.language
+        is_board = path == "/board"
+        if is_board and not self.boards.take(asked.origin):
+            raise Settled(self.told(429, language, "slower"))
+
+        def shown() -> Shown:
+            snapshot = self.cache.now
+            return Shown(snapshot.pairing, (snapshot.version, self.clock(language)))
+
+        name = (path, DEFAULT if is_board else language)
+        kept = self.kept.page(name, shown, lambda: self.lists[path](self.cache.now, language))
+        policy = POLICY_OF_BOARD if is_board else POLICY
+        return Reply(200, kept.body, policy=policy, gzipped=kept.gzipped)
+
+    def pairings(self, snapshot: Snapshot, language: str) -> bytes:
+        rows = [row_of(snapshot, player) for player in snapshot.by_name if player.number in snapshot.matches]
+        text = text_of_round(snapshot.event, snapshot.number)
+        has_draw = rule_of_event(self.cache.file) is not None
+        drawn = drawn_shown(text, language) if rows else ""
+        return self.page("pairings.html", language, rows=rows, drawn=drawn, has_draw=has_draw).body
+
+    def who(self, asked: Asked, number: int) -> Reply:
+        """A player's own page: how the tiebreakers come about."""
+        event = self.cache.now.event
+        if number not in event.players:
+            return self.told(404, asked.language, "no_page")
+        return self.page(
+            "who.html",
+            asked.language,
+            player=event.players[number],
+            working=working_of(event, number),
+            part=part_shown,
+            share=share_shown,
+        )
+
+    # ---- the draw
+
+    def draw(self, snapshot: Snapshot, language: str) -> bytes:
+        """The rule, what the next round waits for, and the text of each round that was drawn."""
+        rule, texts = rule_of_event(self.cache.file), Draws(self.cache.file).texts()
+        rows = [DrawRow(text.round, text.drawing, drawn_shown(text, language)) for text in texts]
+        shown = "" if not rule or rule.is_off else rule.text
+        # who is whom is to be seen before the first throw
+        players = [] if snapshot.number or not shown else snapshot.by_name
+        shut = shut_now(snapshot.event)
+        return self.page("draw.html", language, rule=shown, rows=rows, players=players, shut=shut).body
+
+    def draw_text(self, asked: Asked, wanted: str) -> Reply:
+        """A text as it was written, for whoever checks it; or the lists that are shut for the next round."""
+        if wanted == "next":
+            shut = shut_now(self.cache.now.event)
+            head = f"round {shut.round}\ndrawing {shut.drawing}\nmark {shut.mark}\n" if shut else ""
+            data = head.encode() + shut.data if shut else b""
+        else:
+            number, _, drawing = wanted.partition("/")
+            texts = [text for text in Draws(self.cache.file).texts() if text.round == int(number)]
+            texts = [text for text in texts if not drawing or text.drawing == int(drawing)]
+            data = texts[-1].data if texts else b""
+        if not data:
+            return self.told(404, asked.language, "no_page")
+        return Reply(200, data, kind="text/plain; charset=utf-8")
+
+    def standings(self, snapshot: Snapshot, language: str) -> bytes:
+        rows, number = snapshot.standings, snapshot.event.complete_rounds()
         return self.page("standings.html", language, rows=rows, number=number).body
 
-    def board(self, picture: Picture, _language: str) -> bytes:
+    def board(self, snapshot: Snapshot, _language: str) -> bytes:
         """The board of the sheets. It reloads itself, and shows all its parts."""
-        from companions.sheets.page import Board, open_tables_of, page_of, parts_of_board
+        from companions.sheets.page import Board, foot_of, notes_of, page_of, parts_of_board
 
-        event, clock = picture.event, self.looking.clock
-        board = Board(None, clock.shown(time.time()) if clock else "", open_tables_of(event))
-        return page_of(event, picture.title, picture.number, parts_of_board(event), board).encode("utf-8")
+        event, clock = snapshot.event, self.cache.clock
+        shown = clock.shown(time.time()) if clock else ""
+        board = Board(None, shown, foot_of(event, self.secret), notes_of(event))
+        return page_of(event, snapshot.title, snapshot.number, parts_of_board(event), board).encode("utf-8")
 
     # ---- codes
 
     def typed(self, asked: Asked) -> Reply:
         """Table and code, as they were typed: on to the table's page, if they belong together."""
         table, code = asked.form.get("table", "").strip(), asked.form.get("code", "")
-        number = self.looking.now.number
+        number = self.cache.now.number
         is_number = re.fullmatch("[0-9]{1,3}", table)
-        found = self.found(asked, number, int(table) if is_number else 0, code)
+        found = self.found(asked, Typed(number, int(table) if is_number else 0, code))
         return Reply(303, b"", [("Location", found.target)]) if found else self.start_wrong(asked)
 
     def start_wrong(self, asked: Asked) -> Reply:
         return self.start(replace(asked, query={}), is_wrong=True)
 
-    def found(self, asked: Asked, number: int, table: int, code: str) -> Optional[AtTable]:
-        """Whose code it is, or None. An address with many wrong ones waits for its answer, right or wrong."""
-        with self.lane(asked):
-            picture = self.looking.now
-            match = picture.match(number, table) if number else None
-            seat = self.secret.seat_of(number, match, code) if match else None
-            if match is None or seat is None:
-                self.wrong.take(asked.origin)
-                self.wrong_codes += 1
-                return None
-            target = self.secret.target(number, match, seat)
-            return AtTable(asked, picture, number, match, seat, target)
+    def seat_at(self, snapshot: Snapshot, typed: Typed) -> Optional[int]:
+        """Whose code it is, or None."""
+        match = snapshot.match(typed.round, typed.table) if typed.round else None
+        return self.secret.seat_of(typed.round, match, typed.code) if match else None
 
-    @contextlib.contextmanager
-    def lane(self, asked: Asked) -> Iterator[None]:
-        if not self.wrong.is_empty(asked.origin):
-            yield
+    def found(self, asked: Asked, typed: Typed) -> Optional[AtTable]:
+        """Whose code it is, or None. A right one is answered at once, whatever else its address sends."""
+        snapshot = self.cache.now
+        seat, number = self.seat_at(snapshot, typed), typed.round
+        match = snapshot.match(number, typed.table) if number else None
+        if match is None or seat is None:
+            self.wrong_code(asked)
+            return None
+        target = self.secret.target(number, match, seat)
+        return AtTable(asked, snapshot, number, match, seat, target, self.going(snapshot, number, match))
+
+    def going(self, snapshot: Snapshot, number: int, match: Match) -> tuple[Player, ...]:
+        found = going_home(self.reports, number, snapshot.players)
+        return tuple(it.player for it in found if match.has(it.player.number))
+
+    def wrong_code(self, asked: Asked) -> None:
+        """An address with many of them waits for its answer, or gets none but that there were too many."""
+        self.wrong_codes += 1
+        if self.wrong.take(asked.origin):
             return
         try:
-            with self.lanes.entered(asked.origin):
-                yield
+            with self.delays.entered(asked.origin):
+                pass
         except Crowded:
             raise Settled(self.told(429, asked.language, "too_many_codes")) from None
 
-    def with_code(self, asked: Asked, number: int, table: int, code: str) -> Reply:
-        at = self.found(asked, number, table, code)
+    def with_code(self, asked: Asked, typed: Typed) -> Reply:
+        at = self.found(asked, typed)
         if not at:
             return self.start_wrong(asked)
-        if not self.at_tables.take((number, table)):
-            raise Settled(self.told(429, asked.language, "slower"))
         return self.hand_in(at) if asked.method == "POST" else self.table(at)
+
+    # ---- a player's own page
+
+    def player_of(self, snapshot: Snapshot, link: Link) -> Optional[Player]:
+        """Whose link it is, or None. The name is the one that the program has."""
+        player = snapshot.event.enrolled.get(link.number)
+        return player if player and self.secret.is_link(player, link.code) else None
+
+    def with_link(self, asked: Asked, link: Link) -> Reply:
+        snapshot = self.cache.now
+        player = self.player_of(snapshot, link)
+        if not player:
+            self.wrong_code(asked)
+            return self.start_wrong(asked)
+        if not link.place:
+            is_asked = asked.method != "POST"
+            return self.me(asked, player) if is_asked else self.told(404, asked.language, "no_page")
+        number, table, *seats = link.place
+        match = snapshot.match(number, table)
+        if not match or [match.first, match.second] != seats or not match.has(player.number):
+            return Reply(303, b"", [("Location", f"{self.secret.link(player)}?moved=1")])
+        at = self.own_table(asked, snapshot, player, number, match)
+        return self.hand_in(at) if asked.method == "POST" else self.table(at)
+
+    def own_table(
+        self, asked: Asked, snapshot: Snapshot, player: Player, number: int, match: Match
+    ) -> AtTable:
+        """The player's match of a round, as a table whose code speaks for this seat."""
+        me = self.secret.link(player)
+        seat = FIRST_SEAT if match.first == player.number else SECOND_SEAT
+        target = f"{me}/{number}-{match.place}-{match.first}-{match.second}"
+        return AtTable(asked, snapshot, number, match, seat, target, self.going(snapshot, number, match), me)
+
+    def me(self, asked: Asked, player: Player) -> Reply:
+        snapshot = self.cache.now
+        is_still, is_moved = (asked.query.get(name) == "1" for name in ("still", "moved"))
+        name = player.number, asked.language, is_still, is_moved
+        shown = snapshot.version, self.clock(asked.language), self.reports.count
+        kept = self.own_pages.get(name)
+        if kept == (shown, asked.tag):
+            # what it shows is what the phone has, so that it is not made again
+            return Reply(200, tag=asked.tag)
+        reply = self.own_page(asked, snapshot, player, is_still, is_moved)
+        self.own_pages[name] = shown, reply.tag
+        return reply
+
+    def own_page(
+        self, asked: Asked, snapshot: Snapshot, player: Player, is_still: bool, is_moved: bool
+    ) -> Reply:
+        me = me_of(snapshot, player.number)
+        words: dict[str, Any] = {"me": self.secret.link(player), "own": me, "is_moved": is_moved}
+        words.update(seconds=0 if is_still else SECONDS_TO_RELOAD, is_still=is_still)
+        words.update(at=None, state="", call=None)
+        if me.match and not me.match.is_bye and not me.is_playoff:
+            at = self.own_table(asked, snapshot, player, snapshot.number, me.match)
+            call = judge_call(self.reports, at.number, at.match)
+            words.update(at=at, call=call, **self.state_of(at))
+        return self.reloaded(self.page("me.html", asked.language, **words))
+
+    def state_of(self, at: AtTable) -> dict[str, Any]:
+        """What the player is shown of his match, and what goes with it."""
+        if at.match.score:
+            return {"state": "stored", "score": self.with_names(at, at.match.score)}
+        said = half_said(self.reports, at.number, at.match) if self.secret.asks_both else {}
+        if at.seat in said:
+            return {"state": "waits", **self.half_words(at, said)}
+        players = at.snapshot.players
+        return {"state": "open", "first": players[at.match.first], "second": players[at.match.second]}
+
+    def reloaded(self, reply: Reply) -> Reply:
+        """A page that reloads itself: what has not changed is said in a hundred bytes."""
+        return replace(reply, tag=tag_of(reply.body))
 
     # ---- a table
 
     def shown(self, at: AtTable, name: str, status: int = 200, **words: object) -> Reply:
-        words = {"target": at.target, "table": at.match.place, **words}
+        words = {"at": at, "target": at.target, "table": at.match.place, "you": at.you, "me": at.me, **words}
         return self.page(name, at.asked.language, status, **words)
 
-    def score(self, at: AtTable, text: str) -> Score:
-        players = at.picture.players
-        return Score(players[at.match.first], players[at.match.second], *text.split("-"))
+    def shown_again(self, at: AtTable, name: str, **words: Any) -> Reply:
+        """A page on which nothing is entered: it goes on by itself to what comes next."""
+        reply = self.shown(at, name, seconds=SECONDS_TO_RELOAD, **words)
+        return self.reloaded(reply) if at.me else reply
+
+    def with_names(self, at: AtTable, score: Score) -> NamedScore:
+        players = at.snapshot.players
+        return NamedScore(players[at.match.first], players[at.match.second], score)
 
     def table(self, at: AtTable) -> Reply:
         query, match = at.asked.query, at.match
-        if at.number < at.picture.number:
-            return self.shown(at, "over.html", score=self.score(at, match.score))
+        if at.number < at.snapshot.number and match.score:
+            if at.me and "said" not in query:
+                return Reply(303, b"", [("Location", at.me)])
+            snapshot = at.snapshot
+            rows = [row_of(snapshot, snapshot.players[number]) for number in at.seats]
+            return self.shown_again(at, "over.html", score=self.with_names(at, match.score), rows=rows)
         is_wrong = query.get("wrong") == "1"
-        games = games_in(query)
-        if games:
-            return self.look_once_more(at, games)
+        score = score_in(query)
+        if score:
+            return self.look_once_more(at, score)
         if "x" in query or "s" in query:
             return self.told(400, at.asked.language, "not_understood")
         if match.score and not is_wrong:
-            return self.stored(at)
-        said = half_said(self.reports, at.number, match) if at.seat else {}
+            return self.stored(at, match.score)
+        said = half_said(self.reports, at.number, match) if self.asks_both(at) else {}
         if at.seat in said and not is_wrong:
             return self.waits(at, said)
         return self.buttons(at, is_wrong)
 
     def buttons(self, at: AtTable, is_wrong: bool = False, no_match: bool = False) -> Reply:
-        players = at.picture.players
+        players = at.snapshot.players
         return self.shown(
             at,
             "table.html",
@@ -247,120 +475,158 @@ class Site(Pages):
             no_match=no_match,
         )
 
-    def look_once_more(self, at: AtTable, games: Games, is_late: bool = False) -> Reply:
+    def look_once_more(self, at: AtTable, score: Score, is_late: bool = False) -> Reply:
         back = at.target + ("?wrong=1" if at.match.score or at.seat else "")
-        text, status = text_of(games), 503 if is_late else 200
-        return self.shown(
-            at, "look.html", status, score=self.score(at, text), text=text, back=back, is_late=is_late
-        )
+        words = {"score": self.with_names(at, score), "back": back, "is_late": is_late}
+        return self.shown(at, "look.html", 503 if is_late else 200, **words)
 
-    def stored(self, at: AtTable) -> Reply:
-        said = at.asked.query.get("said", "")
-        is_other = bool(re.fullmatch("[0-3]-[0-3]-[0-3]", said)) and said != at.match.score
-        other = self.score(at, said) if is_other else None
-        return self.shown(at, "stored.html", score=self.score(at, at.match.score), said=other)
+    def stored(self, at: AtTable, score: Score) -> Reply:
+        said = score_of(at.asked.query.get("said", ""))
+        other = self.with_names(at, said) if said and said != score else None
+        return self.shown_again(at, "stored.html", score=self.with_names(at, score), said=other)
 
-    def waits(self, at: AtTable, said: Dict[int, Report]) -> Reply:
+    def waits(self, at: AtTable, said: dict[int, Report]) -> Reply:
         """Where both have to say it: what this seat said, and the other one if that differs."""
+        return self.shown_again(at, "waits.html", **self.half_words(at, said))
+
+    def half_words(self, at: AtTable, said: dict[int, Report]) -> dict[str, Any]:
         mine, other = said[at.seat], said.get(SECOND_SEAT if at.seat == FIRST_SEAT else FIRST_SEAT)
-        players = at.picture.players
-        opponent = players[at.match.second if at.seat == FIRST_SEAT else at.match.first]
-        differs = self.score(at, other.score) if other and other.score != mine.score else None
-        return self.shown(
-            at, "waits.html", score=self.score(at, mine.score), other=differs, opponent=opponent
-        )
+        differs = self.with_names(at, other.score) if other and other.score != mine.score else None
+        return {"score": self.with_names(at, mine.score), "other": differs, "opponent": at.opponent}
+
+    def asks_both(self, at: AtTable) -> bool:
+        """Whether the other seat has to say the same."""
+        return self.secret.asks_both and at.seat != TABLE
 
     # ---- handing in
 
     def hand_in(self, at: AtTable) -> Reply:
-        games = games_in(at.asked.form)
-        if not games:
+        score, said = score_in(at.asked.form), said_in(at)
+        if not score and not said:
             return self.told(400, at.asked.language, "not_understood")
         if not self.handed.take((at.number, at.match.place)):
             return self.told(429, at.asked.language, "too_often")
-        text, is_newest = text_of(games), at.number == at.picture.number
+        if not score:
+            return self.said(at, *said)
+        is_newest = at.number == at.snapshot.number
         try:
-            asks_both = at.seat != TABLE and is_newest and not at.match.score
-            if asks_both and self.has_to_wait(at, text):
-                return Reply(303, b"", [("Location", at.target)])
-            return self.answered(at, games, text)
+            has_to_agree = self.asks_both(at) and is_newest and not at.match.score
+            if has_to_agree and self.has_to_wait(at, score):
+                return Reply(303, b"", [("Location", at.done)])
+            return self.answered(at, score)
         except NotNow:
-            return self.look_once_more(at, games, is_late=True)
+            return self.look_once_more(at, score, is_late=True)
 
-    def has_to_wait(self, at: AtTable, text: str) -> bool:
+    def said(self, at: AtTable, outcome: str, drops: tuple[int, ...]) -> Reply:
+        """Kept for the scorekeeper, who drops the player or doesn't, or sends a judge."""
+        if at.number < at.snapshot.number:
+            return self.told(409, at.asked.language, "round_is_over")
+        try:
+            self.keep(at, NO_SCORE, outcome, drops=drops)
+        except NotNow:
+            return self.told(503, at.asked.language, "not_yet", "not_yet_why")
+        return Reply(303, b"", [("Location", at.done)])
+
+    def has_to_wait(self, at: AtTable, score: Score) -> bool:
         """Whether the other seat doesn't say the same. What this one says is kept then."""
         with self.saying:
             said = half_said(self.reports, at.number, at.match)
-            if any(seat != at.seat and report.score == text for seat, report in said.items()):
+            if any(seat != at.seat and report.score == score for seat, report in said.items()):
                 return False
-            self.keep(at, text, WAITS, "")
+            self.keep(at, score, WAITS)
             return True
 
-    def answered(self, at: AtTable, games: Games, text: str) -> Reply:
+    def answered(self, at: AtTable, score: Score) -> Reply:
         """What the program says of it. What it took is stored, also where no report of it can be written."""
-        answer = self.keeper.report(at.number, at.match.place, games, at.picture.inode)
+        answer = self.queue.report(at.number, at.match.place, score, at.seats)
         is_reported = answer.refused == Refusal.ALREADY_REPORTED
-        stored = text if answer.is_taken else answer.stored or self.stored_score(at, is_reported)
-        outcome = outcome_of(answer, stored, text)
+        stored = score if answer.is_taken else answer.stored or self.stored_score(at, is_reported)
+        outcome = outcome_of(answer, stored, score)
         if answer.is_taken:
-            self.looking.store(at.number, at.match, text)
-        self.keep(at, text, outcome, stored)
+            self.cache.store(at.number, at.match, score)
+        self.keep(at, score, outcome, stored)
         if outcome in (STORED, SAME, OTHER):
-            return Reply(303, b"", [("Location", at.target + (f"?said={text}" if outcome == OTHER else ""))])
+            leads_to = f"{at.target}?said={score}" if outcome == OTHER else at.done
+            return Reply(303, b"", [("Location", leads_to)])
         if answer.refused == Refusal.BAD_SCORE:
             return self.buttons(at, no_match=True)
         is_over = answer.refused == Refusal.NOT_SWISS
         return self.told(409, at.asked.language, "rounds_are_over" if is_over else "not_taken")
 
-    def keep(self, at: AtTable, text: str, outcome: str, stored: str) -> None:
-        form, match = at.asked.form, at.match
-        drops = drops_in(form, match)
-        when = time.strftime(TIME)
-        seats = at.number, match.place, match.first, match.second
-        report = Report(when, *seats, text, outcome, stored, at.asked.origin, drops, at.seat)
+    def keep(
+        self,
+        at: AtTable,
+        score: Score,
+        outcome: str,
+        stored: Optional[Score] = None,
+        drops: tuple[int, ...] = (),
+    ) -> None:
+        when, drops = time.strftime(TIME), drops or drops_in(at.asked.form, at.speaks_for)
+        report = Report(when, at.number, *at.match.seats, score, outcome, stored, at.asked.origin, drops, at.seat)
+        # nothing but the report says it
+        says_alone = outcome in (WAITS, HOME, STAYS, CALLS, CALLS_OFF)
         try:
             self.reports.add(report)
         except OSError as fault:
             print(f"event-phones: {self.reports.path}: {fault.strerror}", file=sys.stderr, flush=True)
-            if outcome == WAITS:
-                # nothing but the report says it
+            if says_alone:
                 self.reports.unwritten.remove(report)
+            self.cache.troubles.tell(REPORTS, self.unwritten(fault))
+            if says_alone:
                 raise NotNow from None
+        else:
+            if not self.reports.unwritten:
+                self.cache.troubles.over(REPORTS)
 
-    def stored_score(self, at: AtTable, has_to_be: bool) -> str:
-        """The score that is stored, read again if a command came since or the picture has none. NotNow where it
+    def unwritten(self, fault: OSError) -> str:
+        path, count = self.reports.path, len(self.reports.unwritten)
+        told = "no score is taken that both seats have to say"
+        if count:
+            told = f"{count} reports stand on the scorekeeper's page alone"
+        is_full = isinstance(fault, Full)
+        advice = f"It is full. Move it away: mv {path} {path}.full" if is_full else "Make room on the disk."
+        return f"{path} can't be written: {told}. {advice}"
+
+    def stored_score(self, at: AtTable, has_to_be: bool) -> Optional[Score]:
+        """The score that is stored, read again if a command came since or the snapshot has none. NotNow if it
         can't be read, since two scores are told apart by it.
         """
         if has_to_be:
-            self.looking.read_if_changed()
+            self.cache.read_if_changed()
         for _ in range(2):
-            found = self.looking.now.match(at.number, at.match.place)
+            found = self.cache.now.match(at.number, at.match.place)
             if found and found.score and (found.first, found.second) == (at.match.first, at.match.second):
                 return found.score
-            self.looking.read()
+            self.cache.read()
         if has_to_be:
             raise NotNow
-        return ""
+        return None
 
 
-def drops_in(form: Fields, match: Match) -> Tuple[int, ...]:
-    return tuple(number for number in (match.first, match.second) if form.get(f"drop{number}") == "1")
-
-
-def outcome_of(answer: Answer, stored: str, text: str) -> str:
+def outcome_of(answer: Answer, stored: Optional[Score], said: Score) -> str:
     if answer.is_taken:
         return STORED
     if answer.refused == Refusal.ALREADY_REPORTED:
-        return SAME if stored == text else OTHER
+        return SAME if stored == said else OTHER
     return f"refused {answer.refused}"
 
 
-def row_of(picture: Picture, player: Player) -> Row:
-    match = picture.seats.get(player.number)
+def drawn_shown(text: Optional[DrawText], language: str) -> str:
+    """How a round was drawn, in a line."""
+    if not text:
+        return plain_in(language, "key_chosen")
+    found = ["by_number" if text.is_drawn else "key_chosen"]
+    found += ["instead_of"] * (text.instead != NONE) + ["drawn_times"] * (text.drawing > 1) + ["text_digits"]
+    words = {"number": text.number, "numbers": text.instead, "count": text.drawing}
+    return ", ".join(plain_in(language, key, **words, digits=shown_digits(text.sum)) for key in found)
+
+
+def row_of(snapshot: Snapshot, player: Player) -> Row:
+    match = snapshot.matches.get(player.number)
     if match is None:
         return Row("-", player, None)
-    opponent = match.second if player.number == match.first else match.first
-    return Row("bye" if match.is_bye else str(match.place), player, picture.players.get(opponent))
+    opponent = snapshot.players.get(match.opponent_of(player.number))
+    return Row("bye" if match.is_bye else str(match.place), player, opponent)
 
 
 def clock_shown(clock: Optional[Clock], now: float, language: str) -> str:
