@@ -1,13 +1,16 @@
 """How large the letters of a board are."""
+from dataclasses import replace
+
 from companions.lists import Player
 from companions.sheets.board import HEIGHT, SIZES, WIDTH, layout_of, lines_in
-from companions.sheets.parts import NameRow, Part
+from companions.sheets.parts import Part, name_rows
 from companions.sheets.widths import width_of
 
 
 def by_name(names):
     players = [Player(at, name, False) for at, name in enumerate(names, 1)]
-    return Part("names", names=tuple(NameRow(it, "1", players[0]) for it in players))
+    rows = [replace(row, table="1", opponent=players[0]) for row in name_rows(players, False)]
+    return Part("names", names=tuple(rows))
 
 
 def test_more_players_have_smaller_letters():

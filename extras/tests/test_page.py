@@ -1,12 +1,15 @@
 """Pages, of events that are read from the plain reading."""
+from dataclasses import replace
+
 import pytest
 
 pytest.importorskip("jinja2")
 
+from companions.codes import Secret, shown_code
 from companions.event import Event
-from companions.phones.codes import Secret, shown_code
-from companions.sheets.page import Board, open_tables_of, page_of, parts_of_board, turn_now
+from companions.sheets.page import Board, Foot, Playing, foot_of, page_of, parts_of_board, playing_in, turn_now
 from companions.sheets.parts import (
+    DEFAULT_PARTS,
     ROOM_BESIDE_A_CODE,
     SECONDS_TO_RELOAD,
     SlipsFor,
@@ -73,21 +76,47 @@ def test_a_name_on_a_slip_is_small_enough_for_two_lines():
     assert sizes == sorted(sizes, reverse=True) and 4 <= sizes[-1] < 11.5
 
 
-def test_the_board_says_how_many_tables_are_open(dice):
-    shown = {}
+def test_the_board_says_how_many_tables_have_finished(dice):
     for way in (ENROLLING, STARTED, OPEN, COMPLETE, ENDED):
         event = evening(dice, 11, way, 3, 4)
-        shown[way] = open_tables_of(Event(FromModel(event)))
-        newest = event.stored[-1] if event.stored else []
-        due = sum(score is None for _, _, score in newest) if newest and way != ENDED else None
-        assert shown[way] == due
-    assert (shown[ENROLLING], shown[COMPLETE], shown[ENDED]) == (None, 0, None)
-    texts = [Board(still_open=count).shown_open for count in (None, 0, 1, 2)]
-    assert texts == ["", "all scores are in", "1 table open", "2 tables open"]
-    event = evening(dice, 8, COMPLETE, 3, 0)
-    read = Event(FromModel(event))
-    text = page_of(read, "Friday", 1, parts_of_board(read), Board(None, "", 0))
-    assert Page(text).root.one("p", "still-open") == "all scores are in"
+        newest = event.stored[-1] if event.stored and way != ENDED else []
+        tables = [(place, score) for place, (_, second, score) in enumerate(newest, 1) if second]
+        still = tuple(place for place, score in tables if score is None)
+        due = Playing(len(tables) - len(still), still) if newest else None
+        assert playing_in(Event(FromModel(event))) == due
+    texts = [Playing(*it).shown for it in ((0, (1, 2, 3)), (1, (2,)), (8, (2, 4, 5, 6, 9)), (3, ()))]
+    assert texts == [
+        "0 of 3 tables have finished. Still playing: 1-3",
+        "1 of 2 tables has finished. Still playing: 2",
+        "8 of 13 tables have finished. Still playing: 2, 4-6, 9",
+        "All scores are in.",
+    ]
+
+
+def test_the_foot_of_a_board(dice):
+    event = evening(dice, 9, STARTED, 3, 0)
+    event.pair(1, bytes(32))
+    event.report(1, 3, (2, 0, 0), True)
+    read, secret = Event(FromModel(event)), Secret("http://192.168.1.10:8080", bytes(32))
+    text = page_of(read, "Friday", 1, parts_of_board(read), Board(None, "", foot_of(read, secret)))
+    root = Page(text).root
+    assert root.one("p", "playing") == "1 of 4 tables has finished. Still playing: 1, 2, 4"
+    assert root.one("p", "address") == "Your table and your score on your phone: 192.168.1.10:8080"
+    (bar,) = root.of("svg", "bar")
+    assert [it.attributes["width"] for it in bar.of("rect")] == ["4", "1"]
+    # nothing stands there without a round and without phones
+    before = Event(FromModel(evening(dice, 8, ENROLLING, 3, 0)))
+    assert Page(page_of(before, "Friday", 0, parts_of_board(before), Board(foot=Foot()))).root.of("footer") == []
+
+
+def test_lists_by_name_say_where_phones_are_served(dice):
+    event = evening(dice, 9, STARTED, 3, 0)
+    event.pair(1, bytes(32))
+    read, secret = Event(FromModel(event)), Secret("http://192.168.1.10:8080", bytes(32))
+    for kinds, is_said in ((("names",), True), (("seats",), True), (("tables",), False)):
+        text = page_of(read, "Friday", 1, kinds, None, SlipsFor(None, secret))
+        assert ("on your phone:</span> 192.168.1.10:8080" in text) == is_said
+        assert "on your phone" not in page_of(read, "Friday", 1, kinds)
 
 
 def slips_with(event, secret, tables=None):
@@ -118,6 +147,25 @@ def test_each_slip_has_its_code(dice, asks_both):
             f"for No {matches[1].first}",
             f"for No {matches[1].second}",
         ]
+
+
+def test_each_player_has_a_strip(dice):
+    """By name, with what is typed; of the name that the program has, whatever is shown."""
+    event = evening(dice, 9, OPEN, 3, 0, True)
+    secret = Secret("http://192.168.1.10:8080", bytes(32))
+    read = Event(FromModel(event))
+    read.players = {number: replace(it, name=f"Shown {number}") for number, it in read.enrolled.items()}
+    page = Page(page_of(read, "Friday", 1, ("links",), None, SlipsFor(None, secret)))
+    assert page.faults == []
+    strips = page.root.of("article", "strip")
+    found = {node.one("span", "no"): (node.one("span", "name"), node.one("span", "code")) for node in strips}
+    assert found == {
+        f"No {number}": (f"Shown {number}", shown_code(secret.link_code(it))) for number, it in read.enrolled.items()
+    }
+    assert all(f"192.168.1.10:8080/p/{number}/" in page.root.text() for number in read.enrolled)
+    # none without an address, and none on a page that is made without naming them
+    assert page_of(read, "Friday", 1, ("links",), None, SlipsFor()).count("<article") == 0
+    assert "links" not in DEFAULT_PARTS and "links" not in parts_of_board(read)
 
 
 def test_a_round_before_has_no_codes(dice):

@@ -5,51 +5,58 @@ from __future__ import annotations
 
 import math
 from dataclasses import dataclass
-from typing import List, Optional, Tuple
+from typing import Iterator, Optional, Tuple
 
 from companions.sheets.parts import Part
 from companions.sheets.widths import width_of
 
-# a screen of 16 by 9, in hundredths of its width, without the margins, and with room for the clock and for
-# columns that a browser fills unevenly
-WIDTH, HEIGHT = 97.0, 49.5
+# a screen of 16 by 9, in hundredths of its width, without the margins and the foot, and with room for the
+# clock and for columns that a browser fills unevenly
+WIDTH, HEIGHT = 97.0, 46.0
 # of the room for a name, what is counted on: letters are a little wider than estimated here and there
 FILLED = 0.95
 # in heights of a letter: between two columns, of a line, around a row, and of the heading
 GAP, LINE, AROUND, HEADING = 1.6, 1.25, 0.3, 2.4
+# and of the line beneath it that says how the round was drawn
+DRAWN = 1.3
 SIZES = (1.9, 1.75, 1.6, 1.45, 1.3, 1.15, 1.0, 0.9, 0.8, 0.7, 0.6)
 MOST_COLUMNS = 8
 # of a row: the room that is not for names, and how many names stand side by side
 ROOMS = {
-    "players": (2.6, 1), "names": (4.4, 2), "tables": (12.4, 2), "standings": (21.0, 1), "seats": (6.0, 1),
-    "final": (5.6, 1),
+    "players": (4.2, 1), "names": (6.0, 2), "tables": (12.4, 2), "standings": (9.4, 1), "seats": (7.6, 1),
+    "final": (8.2, 1),
 }
+# and for the record beside a name, and for percentages, which are as large as names or are left out
+RECORD, SHARES = 3.2, 12.3
+# as small as the letters of standings may be for the sake of percentages
+LEAST_WITH_SHARES = 1.3
 
 Names = Tuple[str, ...]
 
 
 @dataclass(frozen=True)
 class Layout:
-    """The size of the letters, in hundredths of the screen's width, and the number of columns."""
+    """The size of the letters, in hundredths of the screen's width, and the number of columns; of standings,
+    whether there is room for the percentages.
+    """
 
     size: float
     columns: int
+    has_shares: bool = True
 
 
-def rows_of(part: Part) -> List[Names]:
+def rows_of(part: Part) -> list[Names]:
     """The names in each row."""
-    rows: List[Names] = [(player.name,) for player in part.players]
-    rows += [(row.first.name, row.second.name if row.second else "") for row in part.tables]
+    rows: list[Names] = [(row.first.name, row.second.name if row.second else "") for row in part.tables]
     rows += [(ranked.player.name,) for ranked in part.ranking]
-    rows += [(row.player.name, row.opponent.name if row.opponent else "") for row in part.names]
-    rows += [
-        (standing.player.name + (" dropped" if standing.player.has_dropped else ""),)
-        for standing in part.standings
-    ]
+    # a comma stands after the last name
+    rows += [(f"{row.player.name},", row.opponent.name if row.opponent else "") for row in part.names]
+    # the word `dropped` is in smaller letters
+    rows += [(it.player.name + " drop" * it.player.has_dropped,) for it in part.standings]
     return rows
 
 
-def lines_in(name: str, room: float) -> Tuple[int, bool]:
+def lines_in(name: str, room: float) -> tuple[int, bool]:
     """How many lines a name takes, and whether one of its words has to be broken."""
     lines, filled, is_broken = 1, 0.0, False
     for word in name.split():
@@ -63,7 +70,7 @@ def lines_in(name: str, room: float) -> Tuple[int, bool]:
     return lines, is_broken
 
 
-def heights_of(rows: List[Names], room: float, may_break: bool) -> Optional[List[float]]:
+def heights_of(rows: list[Names], room: float, may_break: bool) -> Optional[list[float]]:
     """Of each row; None, where a word would be broken."""
     heights = []
     for names in rows:
@@ -74,8 +81,10 @@ def heights_of(rows: List[Names], room: float, may_break: bool) -> Optional[List
     return heights
 
 
-def fits(rows: List[Names], kind: str, layout: Layout, may_break: bool) -> bool:
-    others, side_by_side = ROOMS[kind]
+def fits(rows: list[Names], part: Part, layout: Layout, may_break: bool) -> bool:
+    others, side_by_side = ROOMS[part.kind]
+    others += side_by_side * RECORD if part.records else 0.0
+    others += SHARES if part.standings and layout.has_shares else 0.0
     width = WIDTH / layout.size
     room = ((width - (layout.columns - 1) * GAP) / layout.columns - others) / side_by_side * FILLED
     if room <= 0:
@@ -85,7 +94,8 @@ def fits(rows: List[Names], kind: str, layout: Layout, may_break: bool) -> bool:
         return False
     # columns are of rows that stay whole, so one may be a row longer than the others
     tallest = sum(heights) / layout.columns + (max(heights) if layout.columns > 1 else 0.0)
-    return (tallest + HEADING) * layout.size <= HEIGHT
+    above = HEADING + (DRAWN if part.drawn else 0.0) + (LINE if part.standings else 0.0)
+    return (tallest + above) * layout.size <= HEIGHT
 
 
 def layout_of(part: Part) -> Optional[Layout]:
@@ -93,9 +103,16 @@ def layout_of(part: Part) -> Optional[Layout]:
     rows = rows_of(part)
     if part.kind not in ROOMS or not rows:
         return None
-    choices = [Layout(size, columns) for size in SIZES for columns in range(1, MOST_COLUMNS + 1)]
     for may_break in (False, True):
-        found = next((layout for layout in choices if fits(rows, part.kind, layout, may_break)), None)
+        found = next((layout for layout in choices_for(part) if fits(rows, part, layout, may_break)), None)
         if found:
             return found
-    return Layout(SIZES[-1], MOST_COLUMNS // 2)
+    return Layout(SIZES[-1], MOST_COLUMNS // 2, not part.standings)
+
+
+def choices_for(part: Part) -> Iterator[Layout]:
+    """The best first."""
+    columns = range(1, MOST_COLUMNS + 1)
+    if part.standings:
+        yield from (Layout(size, it) for size in SIZES if size >= LEAST_WITH_SHARES for it in columns)
+    yield from (Layout(size, it, not part.standings) for size in SIZES for it in columns)

@@ -2,7 +2,7 @@
 from __future__ import annotations
 
 from dataclasses import dataclass, field
-from typing import Dict, List, Optional
+from typing import Optional
 
 from companions.event import Event
 from companions.lists import Match, Matches, Player
@@ -10,6 +10,8 @@ from companions.sheets.widths import width_of
 
 BOX_WIDTH, GAP, LINE, PADDING, BETWEEN, TOP, CHAMPION_BELOW = 250, 40, 20, 12, 30, 34, 44
 NAME_ROOM, LETTER, SMALL_LETTER, SMALL_LINE = 140, 16, 11, 14
+# how much larger the final is than the stages before it, and the champion
+FINAL, CHAMPION = 1.25, 1.5
 # which seeds meet in the slots of the first stage, by how many slots there are
 SEEDS = {1: ((1, 2),), 2: ((1, 4), (2, 3)), 4: ((1, 8), (4, 5), (2, 7), (3, 6))}
 STAGE_NAMES = {1: "Final", 2: "Semifinals", 4: "Quarterfinals"}
@@ -43,6 +45,7 @@ class Text:
 class Box:
     x: float
     y: float
+    width: float
     height: float
 
 
@@ -54,25 +57,25 @@ class Seat:
     seed: int
     games: str
     kind: str
-    x: int
-    y: float
+    box: Box
+    # of the letters, beside those of the stages before the final
+    scale: float
 
 
 @dataclass
 class Drawing:
     """What is drawn, and how large it is."""
 
-    width: int
+    width: float
     height: float = 0
-    seat_height: int = 0
-    headings: List[Text] = field(default_factory=list)
-    boxes: List[Box] = field(default_factory=list)
-    lines: List[str] = field(default_factory=list)
-    seats: List[Seat] = field(default_factory=list)
-    drawn_games: List[Text] = field(default_factory=list)
+    headings: list[Text] = field(default_factory=list)
+    boxes: list[Box] = field(default_factory=list)
+    lines: list[str] = field(default_factory=list)
+    seats: list[Seat] = field(default_factory=list)
+    drawn_games: list[Text] = field(default_factory=list)
 
 
-def seeds_of(matches: Matches) -> Dict[int, int]:
+def seeds_of(matches: Matches) -> dict[int, int]:
     """The seed of each player, by the slots of the first stage."""
     slots = SEEDS.get(len(matches), ())
     return {
@@ -92,60 +95,78 @@ class Tree:
         self.first = len(event.stages[0])
         self.columns = self.first.bit_length()
         self.seeds = seeds_of(event.stages[0])
-        self.drawing = Drawing(self.left(self.columns) - GAP + 2, self.bottom(), self.height)
+        self.drawing = Drawing(self.left(self.columns - 1) + CHAMPION * BOX_WIDTH + 2, self.bottom())
 
     def middle(self, stage: int, slot: int) -> float:
         """How far down the match is: between the two that lead to it."""
         if stage == 0:
-            return TOP + slot * (2 * self.height + BETWEEN) + self.height
+            # the final may be the only stage
+            return TOP + slot * (2 * self.height + BETWEEN) + self.scale(stage) * self.height
         return (self.middle(stage - 1, 2 * slot) + self.middle(stage - 1, 2 * slot + 1)) / 2
 
     def left(self, stage: int) -> int:
         return 2 + stage * (BOX_WIDTH + GAP)
 
+    def scale(self, stage: int) -> float:
+        return FINAL if stage == self.columns - 1 else 1.0
+
+    def champions_top(self) -> float:
+        return self.middle(self.columns - 1, 0) + FINAL * self.height + CHAMPION_BELOW
+
     def bottom(self) -> float:
         """Beneath the first stage, and beneath the champion's box where that lies lower."""
-        champion = self.middle(self.columns - 1, 0) + 2 * self.height + CHAMPION_BELOW
+        champion = self.champions_top() + CHAMPION * self.height
         return max(TOP + self.first * (2 * self.height + BETWEEN), champion) + 4
 
-    def goes_on(self, stage: int, number: int) -> bool:
-        """Whether the player stands in the next stage, or is the champion."""
-        if stage + 1 < len(self.event.stages):
-            return any(match.has(number) for match in self.event.stages[stage + 1])
-        return number == self.event.bracket.champion
+    def match_at(self, stage: int, slot: int) -> Optional[Match]:
+        """None, until the stage has begun."""
+        return self.event.stages[stage][slot] if stage < len(self.event.stages) else None
 
-    def add_seat(self, stage: int, number: int, games: str, y: float, kind: str = "") -> None:
+    def winner_at(self, stage: int, slot: int) -> int:
+        """Who stands in the next stage from here on, or is the champion; or 0."""
+        match = self.match_at(stage, slot)
+        if not match or not match.score:
+            return 0
+        return match.first if match.score.first > match.score.second else match.second
+
+    def add_seat(self, number: int, games: str, kind: str, box: Box, scale: float) -> None:
         player = self.event.players[number]
-        kinds = [
-            "seat",
-            kind or ("through" if self.goes_on(stage, number) else ""),
-            "long" if is_long(player.name) else "",
-        ]
-        self.drawing.seats.append(
-            Seat(player, self.seeds.get(number, 0), games, " ".join(filter(None, kinds)), self.left(stage), y)
-        )
+        kinds = " ".join(filter(None, ["seat", kind, "long" if is_long(player.name) else ""]))
+        self.drawing.seats.append(Seat(player, self.seeds.get(number, 0), games, kinds, box, scale))
+
+    def seats_at(self, stage: int, slot: int) -> tuple[Box, Box]:
+        """The upper half of a match's box, and the lower one."""
+        x, middle, scale = self.left(stage), self.middle(stage, slot), self.scale(stage)
+        width, height = scale * BOX_WIDTH, scale * self.height
+        return Box(x, middle - height, width, height), Box(x, middle, width, height)
 
     def add_heading(self, stage: int, text: str, above: float = TOP) -> None:
         self.drawing.headings.append(Text(text, self.left(stage), above - 10))
 
     def add_box(self, stage: int, slot: int) -> None:
-        x, middle = self.left(stage), self.middle(stage, slot)
-        self.drawing.boxes.append(Box(x, middle - self.height, 2 * self.height))
-        self.drawing.lines.append(f"M{x} {middle:g}h{BOX_WIDTH}")
+        upper, lower = self.seats_at(stage, slot)
+        self.drawing.boxes.append(Box(upper.x, upper.y, upper.width, upper.height + lower.height))
+        self.drawing.lines.append(f"M{lower.x} {lower.y:g}h{lower.width:g}")
 
-    def add_match(self, stage: int, slot: int, match: Optional[Match]) -> None:
-        """The box of a slot, and in it the two players, once the stage has begun."""
+    def add_match(self, stage: int, slot: int) -> None:
+        """The box of a slot, and in it the two players: until the stage has begun, those who won so far."""
         self.add_box(stage, slot)
         if stage:
             self.add_lines(stage, slot)
+        boxes, match = self.seats_at(stage, slot), self.match_at(stage, slot)
         if not match:
+            for before, box in enumerate(boxes, 2 * slot):
+                winner = self.winner_at(stage - 1, before)
+                if winner:
+                    self.add_seat(winner, "", "", box, self.scale(stage))
             return
-        middle = self.middle(stage, slot)
-        won, lost, drawn = match.score.split("-") if match.score else ("", "", "0")
-        self.add_seat(stage, match.first, won, middle - self.height)
-        self.add_seat(stage, match.second, lost, middle)
-        if drawn != "0":
-            at = self.left(stage) + BOX_WIDTH - 4, middle + self.height + 15
+        won, lost, drawn = match.score or ("", "", 0)
+        for number, games, box in zip((match.first, match.second), (won, lost), boxes):
+            kind = "through" if number == self.winner_at(stage, slot) else ""
+            self.add_seat(number, str(games), kind, box, self.scale(stage))
+        if drawn:
+            lower = boxes[1]
+            at = lower.x + lower.width - 4, lower.y + lower.height + 15
             self.drawing.drawn_games.append(Text(f"{drawn} drawn", *at))
 
     def add_lines(self, stage: int, slot: int) -> None:
@@ -156,19 +177,18 @@ class Tree:
 
     def add_champion(self, number: int) -> None:
         """A box beneath the final."""
-        stage = self.columns - 1
-        y = self.middle(stage, 0) + self.height + CHAMPION_BELOW
+        stage, y = self.columns - 1, self.champions_top()
         self.add_heading(stage, "Champion", y)
-        self.drawing.boxes.append(Box(self.left(stage), y, self.height))
-        self.add_seat(stage, number, "", y, "champion")
+        box = Box(self.left(stage), y, CHAMPION * BOX_WIDTH, CHAMPION * self.height)
+        self.drawing.boxes.append(box)
+        self.add_seat(number, "", "champion", box, CHAMPION)
 
     def drawn(self) -> Drawing:
         for stage in range(self.columns):
             slots = self.first >> stage
             self.add_heading(stage, STAGE_NAMES.get(slots, f"Stage {stage + 1}"))
-            matches = self.event.stages[stage] if stage < len(self.event.stages) else []
             for slot in range(slots):
-                self.add_match(stage, slot, matches[slot] if matches else None)
+                self.add_match(stage, slot)
         if self.event.bracket.champion is not None:
             self.add_champion(self.event.bracket.champion)
         return self.drawing

@@ -7,10 +7,11 @@ import sys
 import time
 from typing import Callable, Optional
 
-from companions.arguments import add_program, port_word, tables_word
+from companions.arguments import add_program, tables_word
 from companions.event import Event
 from companions.names import visible
-from companions.program import Declined, OverFile, OverPort, Source, ready
+from companions.program import Declined, Source, ready
+from companions.reading import NoRound, Unread, read_whole
 from companions.sheets.files import (
     NEXT_OF_BOARD,
     NEXT_OF_SHEETS,
@@ -21,7 +22,6 @@ from companions.sheets.files import (
 )
 from companions.sheets.making import PACKAGE, Wanted, page_maker
 from companions.sheets.parts import PARTS, SECONDS_TO_RELOAD
-from companions.sheets.reading import NoRound, Unread, read_whole
 from companions.turn import Turn
 
 COMMAND = "event-sheets"
@@ -29,7 +29,7 @@ PURPOSE = "sheets for the wall and a board for the screen, of an event of event_
 
 SECONDS_BETWEEN_LOOKS = 1.0
 # what lies beside FILE and shows on a page
-BESIDE = (".doubts", ".title", ".clock", ".names", ".phones")
+BESIDE = (".doubts", ".title", ".clock", ".names", ".phones", ".notes", ".draws")
 
 HELP = """\
 Writes one HTML page with the sheets of an event: pairings by table and by name,
@@ -41,11 +41,12 @@ hand in (event-phones), each slip of the newest round has its code.
 """
 
 EXAMPLES = """\
-parts: players (until a round is paired), tables, names, slips, standings,
-bracket, final. All that are of use now, unless --parts names some: standings
-once a round is complete; tables and names until the playoff begins, or by
---round. One more, seats, is made where it is named: two players a table by
-name, for a players' meeting.
+parts: players (until a round is paired), draw (if rounds are drawn), tables,
+names, slips, standings, bracket, final. All that are of use now, unless
+--parts names some: standings once a round is complete; tables and names until
+the playoff begins, or by --round. Three more are made if they are named:
+seats, two players a table by name, for a players' meeting; links, a strip for
+each player with the address of the player's page (event-phones); and champion.
 
 examples:
   event-sheets friday.event
@@ -54,8 +55,6 @@ examples:
   event-sheets friday.event --board --watch board.html
       the board for the screen: open board.html in a browser and leave it open.
       Ctrl-C ends the watching
-  event-sheets friday.event --port 8080 -o page.html
-      while `event_reporter serve friday.event 8080 1000000` holds the file
 """
 
 NO_JINJA = f"""\
@@ -83,7 +82,7 @@ class Watch:
         while True:
             # the board shows its next part, and its clock, as time goes on
             now = self.source.stamp(), stamps_beside(self.file), int(time.time() // SECONDS_TO_RELOAD)
-            if now != self.stamp or not self.source.tells_of_commands:
+            if now != self.stamp:
                 self.look(now)
             time.sleep(SECONDS_BETWEEN_LOOKS)
 
@@ -147,11 +146,11 @@ def parser() -> argparse.ArgumentParser:
     )
     add("--parts", type=parts_word, metavar="LIST", help="these parts alone, with commas between them")
     add("--tables", type=tables_word, metavar="LIST", help="slips of these tables alone, as 4 or 4,17")
+    add("--players", type=tables_word, metavar="LIST", help="links of these players alone, as 4 or 4,17")
+    by = "lists by name: by the last or the first name"
+    add("--by", choices=("last", "first"), default="last", help=by)
     title = "the heading; without it FILE.title, which the prompt writes, or else the name in FILE"
     add("--title", metavar="TEXT", help=title)
-    add(
-        "--port", type=port_word, metavar="N", help="read over HTTP, from `event_reporter serve FILE N COUNT`"
-    )
     add_program(words)
     return words
 
@@ -162,15 +161,14 @@ def write_out(text: str) -> None:
 
 
 def source_for(words: argparse.Namespace) -> Source:
-    if words.port:
-        return OverPort(words.port)
     # a reading is tried again as a whole, so no call is tried again alone
-    return OverFile(ready(words.program), words.file, Turn(words.file), most_tries=1)
+    return Source(ready(words.program), words.file, Turn(words.file), most_tries=1)
 
 
 def wanted_by(words: argparse.Namespace) -> Wanted:
-    is_watched = bool(words.watch)
-    return Wanted(words.file, words.parts, words.round, words.tables, words.title, words.board, is_watched)
+    by_first, is_watched = words.by == "first", bool(words.watch)
+    which = words.parts, words.round, words.tables, words.players
+    return Wanted(words.file, *which, words.title, by_first, words.board, is_watched)
 
 
 def page_for(words: argparse.Namespace) -> str:

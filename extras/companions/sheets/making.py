@@ -3,14 +3,14 @@ from __future__ import annotations
 
 import time
 from dataclasses import dataclass
-from typing import Callable, FrozenSet, List, Optional, Sequence
+from typing import Callable, Optional, Sequence
 
 from companions.clock import kept_clock
+from companions.codes import kept_secret
 from companions.event import Event
-from companions.phones.codes import kept_secret
 from companions.program import Declined
+from companions.reading import NoRound
 from companions.sheets.parts import DEFAULT_PARTS
-from companions.sheets.reading import NoRound
 from companions.title import shown_text, title_of
 
 # what is to be installed
@@ -18,12 +18,15 @@ PACKAGE = "sudo apt-get install python3-jinja2"
 # why a part that was asked for isn't there
 NOTHING = {
     "players": "Once a round is paired, the names stand beside the tables: print names",
+    "draw": "Nothing is drawn here. To have dice choose the keys, before the start: draw on",
     "tables": "No round is paired yet, so there are no tables to print. Next: pair",
     "names": "No round is paired yet, so nobody has a table. The players: print players",
     "slips": "No table is open, so there is no slip to print.",
     "standings": "No round is paired yet, so there are no standings to print.",
     "bracket": "The playoff has not begun, so there is no bracket to print. Next: cut",
+    "links": "A player's own page needs the phones' address. In a second window, first:\nevent-phones",
     "final": "There is no champion yet. Until then: print standings",
+    "champion": "There is no champion yet. The playoff: print bracket",
 }
 
 
@@ -34,8 +37,11 @@ class Wanted:
     file: str
     parts: Optional[Sequence[str]] = None
     round: Optional[int] = None
-    tables: Optional[FrozenSet[int]] = None
+    tables: Optional[frozenset[int]] = None
+    players: Optional[frozenset[int]] = None
     title: Optional[str] = None
+    # lists by name: by the first name in place of the last
+    by_first: bool = False
     # a page for the screen; and one that is written again and again
     is_board: bool = False
     is_watched: bool = False
@@ -54,7 +60,7 @@ def number_of(wanted: Wanted, event: Event) -> int:
     return wanted.round
 
 
-def kinds_now(event: Event, names_a_round: bool = False) -> List[str]:
+def kinds_now(event: Event, names_a_round: bool = False) -> list[str]:
     """The parts of paper that are of use now: no standings before a round is complete, and in the playoff no
     tables of the last round, unless they are asked for by its number.
     """
@@ -65,23 +71,27 @@ def kinds_now(event: Event, names_a_round: bool = False) -> List[str]:
 
 def page_maker(wanted: Wanted) -> Callable[[Event], str]:
     """What makes the page of an event as it is. Jinja2 is loaded here, so that all else goes without."""
-    from companions.sheets.page import Board, open_tables_of, parts_for, parts_of_board, rendered, turn_now
+    from companions.sheets.page import Board, foot_of, notes_of, parts_for, parts_of_board, rendered, turn_now
     from companions.sheets.parts import SlipsFor
 
     def board(event: Event) -> Optional[Board]:
         """A page that is written again and again shows its parts in turn, and the minutes that are left."""
-        clock, now = kept_clock(wanted.file), time.time()
         if not wanted.is_board:
             return None
+        clock, now = kept_clock(wanted.file), time.time()
+        foot = foot_of(event, kept_secret(wanted.file))
         if not wanted.is_watched:
-            return Board(None, f"until {clock.ends_at()}" if clock else "")
-        return Board(turn_now(now), clock.shown(now) if clock else "", open_tables_of(event))
+            return Board(None, f"until {clock.ends_at()}" if clock else "", foot)
+        return Board(turn_now(now), clock.shown(now) if clock else "", foot, notes_of(event))
 
     def make(event: Event) -> str:
         number = number_of(wanted, event)
         default = parts_of_board(event) if wanted.is_board else kinds_now(event, wanted.round is not None)
         kinds = wanted.parts or default
-        parts = parts_for(event, number, kinds, SlipsFor(wanted.tables, kept_secret(wanted.file)))
+        if wanted.is_board and "links" in kinds:
+            raise Declined("Links are for their players alone, and not for a screen.")
+        slips = SlipsFor(wanted.tables, kept_secret(wanted.file), wanted.players)
+        parts = parts_for(event, number, kinds, slips, wanted.by_first)
         if not parts and not wanted.may_be_empty:
             raise Declined(NOTHING.get(kinds[0], "There is nothing to print yet."))
         title = shown_text(wanted.title) if wanted.title else title_of(wanted.file, event.source.turn)

@@ -2,23 +2,28 @@
 from __future__ import annotations
 
 import os
-from dataclasses import dataclass
+from dataclasses import dataclass, replace
 from functools import lru_cache
-from typing import Iterable, List, Optional
+from typing import Iterable, Optional
 
 from jinja2 import Environment, FileSystemLoader, StrictUndefined
 
+from companions.codes import Secret
+from companions.drawn import shut_now
 from companions.event import Event
+from companions.notes import Note, Notes
 from companions.sheets.board import layout_of
-from companions.sheets.bracket import BOX_WIDTH
 from companions.sheets.parts import (
     SECONDS_TO_RELOAD,
     SLIP_LETTERS,
     Part,
+    Reach,
     SlipsFor,
     letters_of_slip,
     part_of,
+    reach_of,
 )
+from companions.wording import counted, ranges
 
 # the letters of the clock and of the bracket's heading, in hundredths of the screen's width
 BOARD_LETTERS = 1.5
@@ -42,34 +47,92 @@ def templates() -> Environment:
 
 def parts_of_board(event: Event) -> tuple[str, ...]:
     """What people look for first comes first; slips are for paper."""
+    if event.champion:
+        return "champion", "bracket", "final"
     if event.stages:
-        return "bracket", "standings", "names", "tables"
-    return "players", "names", "tables", "standings", "bracket"
+        # nobody looks for a table of the rounds any more
+        return "bracket", "standings"
+    # before a round is complete they are no more than the list of players
+    standings = ("standings",) if event.complete_rounds() else ()
+    if shut_now(event):
+        # before the throw everybody looks at what the next round is paired by
+        return ("draw", *standings, "players")
+    return ("draw", "players", "names", "tables", *standings, "bracket")
+
+
+@dataclass(frozen=True)
+class Playing:
+    """How far a round is: how many tables have finished, and which still play."""
+
+    finished: int
+    still: tuple[int, ...]
+
+    @property
+    def tables(self) -> int:
+        return self.finished + len(self.still)
+
+    @property
+    def shown(self) -> str:
+        if not self.still:
+            return "All scores are in."
+        have = "has" if self.finished == 1 else "have"
+        finished = f"{self.finished} of {counted(self.tables, 'table')} {have} finished"
+        return f"{finished}. Still playing: {ranges([*self.still])}"
+
+
+@dataclass(frozen=True)
+class Foot:
+    """What stands beneath each part of a board: where phones are served, how far the round is, and what comes
+    next.
+    """
+
+    reach: Optional[Reach] = None
+    playing: Optional[Playing] = None
+    comes_next: str = ""
 
 
 @dataclass(frozen=True)
 class Board:
     """How a page is shown on a screen: which part is shown now, one after the other, or all of them; the
-    clock; and how many tables are open, once there is a round.
+    clock; and what stands beneath.
     """
 
     turn: Optional[int] = None
     clock: str = ""
-    still_open: Optional[int] = None
-
-    @property
-    def shown_open(self) -> str:
-        count = self.still_open
-        if count is None:
-            return ""
-        return f"{count} table{'' if count == 1 else 's'} open" if count else "all scores are in"
+    foot: Foot = Foot()
+    # what the scorekeeper notes of tables
+    notes: tuple[Note, ...] = ()
 
 
-def open_tables_of(event: Event) -> Optional[int]:
-    """How many tables of the newest round have no score, until the playoff begins."""
+def foot_of(event: Event, secret: Optional[Secret]) -> Foot:
+    # in the playoff nobody looks for a table on a phone
+    return Foot() if event.stages else Foot(reach_of(secret), playing_in(event), next_of(event))
+
+
+def playing_in(event: Event) -> Optional[Playing]:
+    """Of the newest round, until the playoff begins."""
     if not event.rounds or event.stages:
         return None
-    return sum(match.is_open for match in event.shown_rounds[-1])
+    matches = [match for match in event.shown_rounds[-1] if not match.is_bye]
+    still = tuple(match.place for match in matches if match.is_open)
+    return Playing(len(matches) - len(still), still)
+
+
+def next_of(event: Event) -> str:
+    """What comes after the round, as far as it is known."""
+    plan, number = event.plan, len(event.rounds)
+    if not plan or not number or event.stages:
+        return ""
+    if number < plan.rounds:
+        return f"Next: round {number + 1} of {plan.rounds}"
+    return f"Next: the playoff of the first {plan.cut}" if plan.cut else "This is the last round."
+
+
+def notes_of(event: Event) -> tuple[Note, ...]:
+    """The notes of the newest round, until the playoff begins."""
+    if not event.file or event.stages:
+        return ()
+    return tuple(Notes(event.file).of_round(len(event.rounds), event.newest()))
 
 
 def turn_now(now: float) -> int:
@@ -78,14 +141,21 @@ def turn_now(now: float) -> int:
 
 
 def parts_for(
-    event: Event, number: int, kinds: Iterable[str], slips: SlipsFor = SlipsFor()
-) -> List[Part]:
+    event: Event, number: int, kinds: Iterable[str], slips: SlipsFor = SlipsFor(), by_first: bool = False
+) -> list[Part]:
     """The parts of these kinds that there are."""
-    return [part for part in (part_of(kind, event, number, slips) for kind in kinds) if part]
+    return [part for part in (part_of(kind, event, number, slips, by_first) for kind in kinds) if part]
 
 
-def rendered(parts: List[Part], title: str, number: int, board: Optional[Board] = None) -> str:
+def for_board(part: Part) -> Part:
+    """Who has never sat at a table stands on paper only."""
+    seen = tuple(row for row in part.standings if row.player.number in part.records)
+    return replace(part, standings=seen)
+
+
+def rendered(parts: list[Part], title: str, number: int, board: Optional[Board] = None) -> str:
     template = templates().get_template("page.html")
+    parts = list(map(for_board, parts)) if board else parts
     text: str = template.render(
         title=title,
         round=number,
@@ -94,7 +164,6 @@ def rendered(parts: List[Part], title: str, number: int, board: Optional[Board] 
         letters=BOARD_LETTERS,
         shown_part=parts[board.turn % len(parts)].kind if board and board.turn is not None and parts else "",
         seconds=SECONDS_TO_RELOAD,
-        box_width=BOX_WIDTH,
         slip_letters=SLIP_LETTERS,
     )
     return text

@@ -1,21 +1,26 @@
 """What each part of a page shows, as templates take it."""
 from __future__ import annotations
 
-from dataclasses import dataclass
-from typing import Dict, FrozenSet, List, Optional, Tuple
+from dataclasses import dataclass, field, replace
+from typing import Iterable, Optional
 
+from companions.codes import TABLE, Secret, shown_code
+from companions.draw import shown_digits
+from companions.drawn import Shut, drawn_line, lines_below, rule_of_event, shut_now, text_of_round
 from companions.event import Event
 from companions.exports import Ranked, final_ranking
-from companions.lists import Match, Matches, Player, Standing
-from companions.names import begun, sort_key
-from companions.phones.codes import TABLE, Secret, shown_code
+from companions.lists import Match, Player, Standing, matches_by_player
+from companions.names import Listed, begun, listed
+from companions.records import Record, records_of
+from companions.score import Score
 from companions.sheets.bracket import Drawing, Tree
 from companions.sheets.squares import square_of
 from companions.sheets.widths import size_for
 from companions.stages import slot_shown
+from companions.working import is_complete, seen_by
 
-DEFAULT_PARTS = ("players", "tables", "names", "slips", "standings", "bracket", "final")
-PARTS = (*DEFAULT_PARTS, "seats")
+DEFAULT_PARTS = ("players", "draw", "tables", "names", "slips", "standings", "bracket", "final")
+PARTS = (*DEFAULT_PARTS, "seats", "links", "champion")
 SLIPS_A_SHEET = 5
 # the name on a slip: its size in points, and its room in millimetres
 SLIP_LETTERS, SLIP_ROOM, SLIP_LINES = 11.5, 66, 2
@@ -30,14 +35,31 @@ class TableRow:
     table: str
     first: Player
     second: Optional[Player]
-    score: str
+    score: Optional[Score]
 
 
 @dataclass(frozen=True)
 class NameRow:
+    """A player in a list by name: under which letter, if it is the first one there, and at which table."""
+
     player: Player
-    table: str
-    opponent: Optional[Player]
+    name: Listed
+    letter: str = ""
+    table: str = ""
+    opponent: Optional[Player] = None
+
+
+@dataclass(frozen=True)
+class Reach:
+    """Where phones are served: what is typed, and what is scanned, as SVG, or nothing."""
+
+    address: str
+    square: str
+
+
+def reach_of(secret: Optional[Secret]) -> Optional[Reach]:
+    # in capitals it takes a smaller square
+    return Reach(secret.shown_address, square_of(secret.at.upper())) if secret else None
 
 
 @dataclass(frozen=True)
@@ -57,7 +79,7 @@ class Slip:
     table: str
     first: Player
     second: Player
-    codes: Tuple[Code, ...] = ()
+    codes: tuple[Code, ...] = ()
 
     @property
     def room(self) -> float:
@@ -66,11 +88,45 @@ class Slip:
 
 
 @dataclass(frozen=True)
-class SlipsFor:
-    """Which tables have slips, or all of them; and of which their codes are made, where phones hand in."""
+class OwnPage:
+    """A player's own page on a phone: what is scanned, as SVG, or nothing; and what is typed."""
 
-    tables: Optional[FrozenSet[int]] = None
+    player: Player
+    square: str
+    at: str
+    code: str
+
+
+@dataclass(frozen=True)
+class SlipsFor:
+    """Which tables have slips, which players strips, or all of them; and of which the codes are made, where
+    phones hand in.
+    """
+
+    tables: Optional[frozenset[int]] = None
     secret: Optional[Secret] = None
+    players: Optional[frozenset[int]] = None
+
+
+@dataclass(frozen=True)
+class Champion:
+    """Who has won the playoff, by which score of the final, and against whom."""
+
+    player: Player
+    score: Score
+    against: Player
+
+
+@dataclass(frozen=True)
+class DrawShown:
+    """The draw of a round: its number, or what the next one waits for; a text or a mark to be noted."""
+
+    rule: str
+    number: str
+    lines: tuple[str, ...] = ()
+    digits: str = ""
+    square: str = ""
+    shut: Optional[Shut] = None
 
 
 @dataclass
@@ -79,22 +135,68 @@ class Part:
 
     kind: str
     what: str = ""
-    players: Tuple[Player, ...] = ()
-    tables: Tuple[TableRow, ...] = ()
-    names: Tuple[NameRow, ...] = ()
-    stacks: Tuple[Tuple[Slip, ...], ...] = ()
-    standings: Tuple[Standing, ...] = ()
-    ranking: Tuple[Ranked, ...] = ()
+    tables: tuple[TableRow, ...] = ()
+    names: tuple[NameRow, ...] = ()
+    stacks: tuple[tuple[Slip, ...], ...] = ()
+    links: tuple[OwnPage, ...] = ()
+    standings: tuple[Standing, ...] = ()
+    ranking: tuple[Ranked, ...] = ()
     drawing: Optional[Drawing] = None
-    note: str = ""
+    champion: Optional[Champion] = None
+    # how the round was drawn, beneath the heading
+    drawn: str = ""
+    draw: Optional[DrawShown] = None
+    # what stands beside names, by the players' numbers, once a round is complete
+    records: dict[int, Record] = field(default_factory=dict)
+    # where players find their table on a phone
+    reach: Optional[Reach] = None
+    # the number of the player who is the last one to go on to the playoff, or 0
+    last_in: int = 0
 
 
-def by_name(event: Event) -> List[Player]:
-    return sorted(event.players.values(), key=lambda player: sort_key(player.name))
+def records_before(event: Event, number: int) -> dict[int, Record]:
+    """The records with which players go into a round."""
+    has_any = any(map(is_complete, event.rounds[: number - 1]))
+    return records_of(event.rounds[:number], number - 1) if has_any else {}
 
 
-def players_part(event: Event) -> Part:
-    return Part("players", f"Players: {len(event.players)}", players=tuple(by_name(event)))
+def name_rows(players: Iterable[Player], by_first: bool) -> list[NameRow]:
+    """By the last name, or by the first one."""
+    rows = [NameRow(it, Listed(it.name) if by_first else listed(it.name, it.last)) for it in players]
+    rows.sort(key=lambda row: row.name.key)
+    letters = ["", *(row.name.letter for row in rows)]
+    return [
+        replace(row, letter=row.name.letter if row.name.letter != before else "")
+        for row, before in zip(rows, letters)
+    ]
+
+
+def players_part(event: Event, by_first: bool) -> Part:
+    rule = rule_of_event(event.file) if event.file else None
+    drawn = "" if not rule or rule.is_off else f"Rounds are drawn: {rule.text}"
+    rows = tuple(name_rows(event.players.values(), by_first))
+    return Part("players", f"Players: {len(rows)}", names=rows, drawn=drawn)
+
+
+def draw_part(event: Event, number: int) -> Optional[Part]:
+    """The draw of the round that is shown; once the lists of the next one are shut, theirs."""
+    rule = rule_of_event(event.file) if event.file else None
+    if not rule:
+        return None
+    shut = shut_now(event) if number == len(event.rounds) else None
+    if shut:
+        lines = (rule.throw, "The tables follow from round and number, and from nothing else.")
+        shown = DrawShown(rule.text, shut.number, lines, shut.mark, square_of(shut.mark), shut)
+        return Part("draw", f"Round {shut.round}, before the throw", draw=shown)
+    if not number:
+        return None if rule.is_off else Part("draw", "The draw", draw=DrawShown(rule.text, "", (rule.throw,)))
+    text = text_of_round(event, number)
+    if not text:
+        return Part("draw", f"Round {number}, the draw", draw=DrawShown(rule.text, ""))
+    square = square_of(text.data, error="l")
+    found = "" if not text.is_drawn else text.number
+    shown = DrawShown(rule.text, found, lines_below(text, event), shown_digits(text.sum), square)
+    return Part("draw", f"Round {number}, the draw", draw=shown)
 
 
 def table_row(event: Event, match: Match) -> TableRow:
@@ -106,34 +208,27 @@ def table_row(event: Event, match: Match) -> TableRow:
 
 def tables_part(event: Event, number: int) -> Part:
     rows = tuple(table_row(event, match) for match in event.shown_rounds[number - 1])
-    return Part("tables", f"Round {number}, by table", tables=rows)
+    records = records_before(event, number)
+    drawn = drawn_line(event, number)
+    return Part("tables", f"Round {number}, by table", tables=rows, drawn=drawn, records=records)
 
 
-def seats_of(matches: Matches) -> Dict[int, Tuple[int, int]]:
-    """The table and the opponent of each player who sits in the round."""
-    seats = {}
-    for match in matches:
-        seats[match.first] = match.place, match.second
-        if not match.is_bye:
-            seats[match.second] = match.place, match.first
-    return seats
+def seated(event: Event, row: NameRow, match: Match) -> NameRow:
+    opponent = event.players.get(match.opponent_of(row.player.number))
+    return replace(row, table="bye" if match.is_bye else str(match.place), opponent=opponent)
 
 
-def names_part(event: Event, number: int) -> Part:
-    seats = seats_of(event.rounds[number - 1])
-    rows = []
-    for player in by_name(event):
-        if player.number in seats:
-            table, opponent = seats[player.number]
-            rows.append(
-                NameRow(
-                    player, str(table) if opponent else "bye", event.players[opponent] if opponent else None
-                )
-            )
-    return Part("names", f"Round {number}, by name", names=tuple(rows))
+def names_part(event: Event, number: int, by_first: bool, reach: Optional[Reach]) -> Part:
+    matches = matches_by_player(event.rounds[number - 1])
+    who_sits = (player for player in event.players.values() if player.number in matches)
+    rows = [seated(event, row, matches[row.player.number]) for row in name_rows(who_sits, by_first)]
+    records = records_before(event, number)
+    drawn = drawn_line(event, number)
+    what = f"Round {number}, by name"
+    return Part("names", what, names=tuple(rows), drawn=drawn, records=records, reach=reach)
 
 
-def codes_of(event: Event, number: int, match: Match, secret: Secret) -> Tuple[Code, ...]:
+def codes_of(event: Event, number: int, match: Match, secret: Secret) -> tuple[Code, ...]:
     """One for the table, or one for each seat. Seats are named by their players' numbers."""
     found = []
     for seat in secret.seats:
@@ -144,7 +239,7 @@ def codes_of(event: Event, number: int, match: Match, secret: Secret) -> Tuple[C
     return tuple(found)
 
 
-def slips_of(event: Event, number: int, wanted: SlipsFor) -> List[Slip]:
+def slips_of(event: Event, number: int, wanted: SlipsFor) -> list[Slip]:
     """A slip for each match that has no score: of the round, and of the playoff."""
     players = event.players
     matches = event.shown_rounds[number - 1] if number else []
@@ -174,7 +269,7 @@ def slips_of(event: Event, number: int, wanted: SlipsFor) -> List[Slip]:
     return slips
 
 
-def stacks_of(slips: List[Slip]) -> Tuple[Tuple[Slip, ...], ...]:
+def stacks_of(slips: list[Slip]) -> tuple[tuple[Slip, ...], ...]:
     """The slips by sheets of paper, so that the sheets are cut as one stack, and its piles lie in order one
     upon the other.
     """
@@ -187,44 +282,94 @@ def letters_of_slip(name: str, room: float = SLIP_ROOM) -> float:
     return size_for(name, SLIP_LETTERS, room, SLIP_LINES)
 
 
-def seats_part(event: Event) -> Part:
+def seats_part(event: Event, by_first: bool, reach: Optional[Reach]) -> Part:
     """Where each player sits at the players' meeting: two at a table, by name."""
-    rows = tuple(NameRow(player, str(at // 2 + 1), None) for at, player in enumerate(by_name(event)))
-    return Part("seats", f"Seats for the players' meeting: {len(rows)}", names=rows)
+    players = players_part(event, by_first)
+    rows = tuple(replace(row, table=str(at // 2 + 1)) for at, row in enumerate(players.names))
+    what = f"Seats for the players' meeting: {len(rows)}"
+    return Part("seats", what, names=rows, drawn=players.drawn, reach=reach)
+
+
+def own_page(player: Player, enrolled: Player, secret: Secret) -> OwnPage:
+    """The code is made of the name that the program has, and the shown one stands beside it."""
+    target = secret.link(enrolled)
+    at = f"{secret.shown_address}/p/{player.number}/"
+    return OwnPage(player, square_of(secret.scanned(target)), at, shown_code(secret.link_code(enrolled)))
+
+
+def links_part(event: Event, wanted: SlipsFor, by_first: bool) -> Optional[Part]:
+    """A strip for each player, to be handed out: whoever has it hands in as this player."""
+    secret = wanted.secret
+    listed_so = [row.player for row in name_rows(event.players.values(), by_first)]
+    players = [it for it in listed_so if wanted.players is None or it.number in wanted.players]
+    if not secret or not players:
+        return None
+    links = tuple(own_page(it, event.enrolled[it.number], secret) for it in players)
+    return Part("links", "A page for each player", links=links)
 
 
 def standings_part(event: Event) -> Part:
-    return Part(
-        "standings", f"Standings after round {event.complete_rounds()}", standings=tuple(event.standings)
-    )
+    complete = event.complete_rounds()
+    records = records_of(event.rounds) if complete else {}
+    what = f"Standings after round {complete}"
+    standings = tuple(event.standings)
+    return Part("standings", what, standings=standings, records=records, last_in=last_in(event))
+
+
+def last_in(event: Event) -> int:
+    """Of those who go on as the standings are, or who went on."""
+    went_on = matches_by_player(event.stages[0]) if event.stages else None
+    ranked = [it.player for it in event.standings]
+    goes_on = [it for it in ranked if (it.number in went_on if went_on else not it.has_dropped)]
+    count = len(went_on) if went_on else event.plan.cut if event.plan else 0
+    return goes_on[count - 1].number if 0 < count < len(goes_on) or went_on else 0
 
 
 def bracket_part(event: Event) -> Optional[Part]:
-    if event.source.is_served:
-        return Part("bracket", note="The bracket is not handed out while `serve` holds the file.")
     return Part("bracket", "Playoff", drawing=Tree(event).drawn()) if event.stages else None
 
 
 def final_part(event: Event) -> Optional[Part]:
     ranking = tuple(final_ranking(event))
-    return Part("final", "Final ranking", ranking=ranking) if ranking else None
+    if not ranking:
+        return None
+    return Part("final", "Final ranking", ranking=ranking, records=records_of(event.rounds))
 
 
-def part_of(kind: str, event: Event, number: int, wanted: SlipsFor = SlipsFor()) -> Optional[Part]:
+def champion_part(event: Event) -> Optional[Part]:
+    """The champion, and how the final ended."""
+    champion = event.champion
+    if not champion:
+        return None
+    (final,) = event.stages[-1]
+    won = seen_by(final, champion.number)
+    against = event.players[final.opponent_of(champion.number)]
+    return Part("champion", "Champion", champion=Champion(champion, won, against))
+
+
+def part_of(
+    kind: str, event: Event, number: int, wanted: SlipsFor = SlipsFor(), by_first: bool = False
+) -> Optional[Part]:
     """A part of the event and of the round of this number, or nothing where there is nothing for it."""
     if kind == "players":
-        return None if event.rounds else players_part(event)
+        return None if event.rounds else players_part(event, by_first)
+    if kind == "draw":
+        return draw_part(event, number)
     if kind == "tables":
         return tables_part(event, number) if number else None
     if kind == "names":
-        return names_part(event, number) if number else None
+        return names_part(event, number, by_first, reach_of(wanted.secret)) if number else None
     if kind == "slips":
         slips = slips_of(event, number, wanted)
         return Part("slips", "Result slips", stacks=stacks_of(slips)) if slips else None
     if kind == "seats":
-        return seats_part(event)
+        return seats_part(event, by_first, reach_of(wanted.secret))
+    if kind == "links":
+        return links_part(event, wanted, by_first)
     if kind == "standings":
         return standings_part(event) if event.rounds else None
     if kind == "final":
         return final_part(event)
+    if kind == "champion":
+        return champion_part(event)
     return bracket_part(event)

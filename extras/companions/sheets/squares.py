@@ -1,12 +1,21 @@
 """Codes to scan (QR codes, ISO/IEC 18004)."""
 from __future__ import annotations
 
+from typing import Union
 
-def square_of(text: str) -> str:
-    """The square as SVG, or nothing where segno is not installed. A page takes it as it is."""
+# more bytes than a square can have, with as little redundancy as there is
+MOST_BYTES = 2953
+
+
+def square_of(data: Union[str, bytes], error: str = "m") -> str:
+    """The square as SVG, or nothing where segno is not installed, or where no square has room for so much. A
+    page takes it as it is.
+    """
     try:
         import segno
         from markupsafe import Markup
     except ImportError:
         return ""
-    return Markup(segno.make(text, error="m", micro=False).svg_inline(border=2, omitsize=True))
+    if len(data) > MOST_BYTES:
+        return ""
+    return Markup(segno.make(data, error=error, micro=False).svg_inline(border=2, omitsize=True))

@@ -7,6 +7,8 @@ from functools import lru_cache
 MILLIMETRES_A_POINT = 0.3528
 # words aren't filled up to the edge
 FILLED = 0.85
+# of letters that are narrower or wider than others, in the widest typeface that pages take
+ROOMS = {"iIjJl.,:;'\u2019|!": 0.38, "ftr() -": 0.45, "mwMW@%": 1.0}
 
 
 def room_of(letter: str) -> float:
@@ -15,7 +17,7 @@ def room_of(letter: str) -> float:
         return 0.0
     if unicodedata.east_asian_width(letter) in "WF" or ord(letter) > 0xFFFF:
         return 1.25
-    return 1.0 if letter.isupper() or letter in "mwMW@%" else 0.65
+    return next((room for letters, room in ROOMS.items() if letter in letters), 0.82 if letter.isupper() else 0.65)
 
 
 @lru_cache(maxsize=4096)
