@@ -5,6 +5,7 @@ import stat
 from companions.checking import differing_tables
 from companions.keys import Keys
 from companions.lists import Match
+from companions.score import Score
 
 ONE, OTHER, THIRD = "ab" * 32, "cd" * 32, "0F" * 32
 
@@ -38,9 +39,9 @@ def test_a_line_that_was_broken_off_stays_alone(tmp_path):
 
 
 def test_tables_at_which_others_sit():
-    stored = [Match(1, 4, 2, "2-0-0"), Match(2, 1, 3, ""), Match(0, 5, 0, "2-0-0")]
-    assert differing_tables(stored, [Match(1, 4, 2, ""), Match(2, 1, 3, ""), Match(0, 5, 0, "2-0-0")]) == []
+    stored = [Match(1, 4, 2, Score(2, 0)), Match(2, 1, 3), Match(0, 5, 0, Score(2, 0))]
+    assert differing_tables(stored, [Match(1, 4, 2), Match(2, 1, 3), Match(0, 5, 0, Score(2, 0))]) == []
     # the order in which two are named is a part of the pairing
-    others = [Match(1, 2, 4, ""), Match(2, 1, 5, ""), Match(0, 3, 0, "2-0-0")]
+    others = [Match(1, 2, 4), Match(2, 1, 5), Match(0, 3, 0, Score(2, 0))]
     assert differing_tables(stored, others) == [0, 1, 2]
     assert differing_tables(stored, stored[:1]) == [0, 2]

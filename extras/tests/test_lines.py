@@ -1,12 +1,24 @@
 import pytest
-from companions.program import Declined, Refusal
 from companions.event import Progress
+from companions.program import Declined, Refusal
 from companions.prompt.desk import only
 from companions.prompt.lines import Input, minutes_in, minutes_of, numbers_in, score_in, with_score
 from companions.prompt.players import have_a_word_in_common
 from companions.prompt.rounds import word_and_minutes
-from companions.prompt.session import prompt_at, ranges, why_not_used
-from companions.prompt.texts import ALL_COMMANDS, BEGINNING, COMMANDS, PLAYOFF, REFUSALS
+from companions.prompt.session import prompt_at, why_not_used
+from companions.prompt.texts import (
+    ALL_COMMANDS,
+    BEGINNING,
+    COMMANDS,
+    FIRST_PAIR,
+    FIRST_PAIR_BY_DICE,
+    PAIR,
+    PAIR_BY_DICE,
+    PLAYOFF,
+    REFUSALS,
+)
+from companions.score import Score
+from companions.wording import ranges
 
 
 def test_numbers():
@@ -106,13 +118,17 @@ def test_why_a_file_is_not_used(tmp_path):
 
 def test_help_fits_a_terminal_of_24_lines():
     # the line that was typed stands above it, and the prompt beneath
-    assert max(text.count("\n") for text in (COMMANDS, BEGINNING, PLAYOFF)) <= 22
-    assert [line for line in (ALL_COMMANDS + BEGINNING + PLAYOFF).split("\n") if len(line) > 80] == []
+    drawn = COMMANDS.replace(PAIR, PAIR_BY_DICE)
+    begins = BEGINNING.replace(FIRST_PAIR, FIRST_PAIR_BY_DICE)
+    assert COMMANDS.count(PAIR) == drawn.count(PAIR_BY_DICE) == 1
+    assert BEGINNING.count(FIRST_PAIR) == begins.count(FIRST_PAIR_BY_DICE) == 1
+    assert max(text.count("\n") for text in (COMMANDS, drawn, BEGINNING, PLAYOFF)) <= 22
+    assert [line for line in (ALL_COMMANDS + drawn + BEGINNING + begins + PLAYOFF).split("\n") if len(line) > 80] == []
 
 
 def test_a_count_of_drawn_games_that_is_not_there_is_0():
-    assert score_in(["2", "1"]) == ("2", "1", "0")
-    assert score_in(["1", "1", "1"]) == ("1", "1", "1")
+    assert score_in(["2", "1"]) == Score(2, 1, 0)
+    assert score_in(["1", "1", "1"]) == Score(1, 1, 1)
 
 
 def test_runs_of_numbers():

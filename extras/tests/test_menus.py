@@ -65,3 +65,18 @@ def test_the_tab_key_takes_what_the_menu_offers(typed, line):
         thread.start()
         assert menus.line("desk> ") == line
         thread.join()
+
+
+def test_what_was_said_keeps_the_screen_until_something_is_typed():
+    """Help of a round is 22 lines of 24, and the menu would take six of them."""
+    from companions.prompt.menus import Menus
+    from prompt_toolkit.application import create_app_session
+    from prompt_toolkit.input import create_pipe_input
+    from prompt_toolkit.output import DummyOutput
+
+    with create_pipe_input() as keys, create_app_session(input=keys, output=DummyOutput()):
+        menus = Menus(offers)
+        buffer = menus.lines.default_buffer
+        assert not buffer.complete_while_typing()
+        buffer.insert_text("w")
+        assert buffer.complete_while_typing()

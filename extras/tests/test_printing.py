@@ -7,24 +7,22 @@ import pytest
 
 pytest.importorskip("jinja2")
 
+from companions.codes import Secret, keep_secret
 from companions.event import Event
-from companions.program import Declined, Refused
+from companions.program import Declined, Refused, Stamp
 from companions.prompt.printing import Printing, wanted_by
 from companions.sheets.files import NEXT_OF_SHEETS
 from companions.title import keep_title
-from companions.turn import Turn
 from from_model import FromModel
 from scripts.clients.random_evenings import COMPLETE, ENDED, ENROLLING, IN_PLAYOFF, OPEN, STARTED, evening
-from scripts.models.plain_page import Page, final_due, parts_due, shown_rows, shown_slips, slips_due
+from scripts.models.plain_page import Page, final_rows, parts_due, shown_rows, shown_slips, slips_due
 
 
 class Asked(FromModel):
     """Over a file that nobody else uses."""
 
-    turn = Turn()
-
     def stamp(self):
-        return (1, 2, 3, 4)
+        return Stamp(1, 2, 3, 4)
 
 
 class Session:
@@ -35,10 +33,6 @@ class Session:
 
     def say(self, *lines):
         self.said += lines
-
-    def must_be_ours(self, name):
-        if self.source.is_served:
-            raise Declined(f"`serve` takes no {name}")
 
 
 @pytest.fixture(autouse=True)
@@ -88,10 +82,18 @@ def test_slips_of_some_tables(tmp_path, dice):
     assert found == [it for it in slips_due(event, 1, "Friday <Night>") if it[2] in ("Table 2", "Table 4")]
 
 
+def test_strips_of_some_players(tmp_path, dice):
+    event = evening(dice, 11, ENROLLING, 3, 0)
+    keep_secret(f"{tmp_path}/friday.event", Secret("http://192.168.1.10:8080", bytes(32)))
+    for rest, due in (("links", set(range(1, 12))), ("links 4 11", {4, 11})):
+        part = printed(tmp_path, event, rest).parts()["links"]
+        assert {int(node.text()[len("No ") :]) for node in part.of("span", "no")} == due
+
+
 def test_the_final_ranking(tmp_path, dice):
     event = evening(dice, 13, ENDED, 3, 4, True)
     part = printed(tmp_path, event, "final").parts()["final"]
-    assert shown_rows(part) == final_due(event)
+    assert shown_rows(part) == final_rows(event)
 
 
 @pytest.mark.parametrize("way, rest, said", [
@@ -103,9 +105,11 @@ def test_the_final_ranking(tmp_path, dice):
     (COMPLETE, "final", "There is no champion yet. Until then: print standings"),
     (COMPLETE, "players", "print names"),
     (OPEN, "badges", "There is no badges to print. As: print slips. There are\n"
-                     "players, tables, names, slips, standings, bracket, final, seats."),
+                     "players, draw, tables, names, slips, standings, bracket, final, seats, links, champion."),
     (OPEN, "tables 4", "as: print slips 4 17"),
     (OPEN, "4", "as: print slips 4 17"),
+    (OPEN, "names 4", "as: print slips 4 17"),
+    (OPEN, "links", "A player's own page needs the phones' address."),
     (OPEN, "slips 9999", "There is no 9999"),
 ])
 def test_what_is_declined_leaves_the_page_before(tmp_path, dice, way, rest, said):
@@ -126,14 +130,6 @@ def test_where_it_can_not_be_written(tmp_path, dice):
     os.mkdir(f"{session.file}.sheets.html")
     with pytest.raises(Declined, match="sheets.html was not written: Is a directory.$"):
         Printing(session).print("")
-
-
-def test_what_serve_does_not_hand_out(tmp_path, dice):
-    session = Session(tmp_path, evening(dice, 9, ENDED, 3, 4))
-    session.source.is_served = True
-    for rest in ("bracket", "final", "names final"):
-        with pytest.raises(Declined, match="takes no (bracket|final)"):
-            Printing(session).print(rest)
 
 
 def test_a_refusal_is_the_prompt_s_to_explain(tmp_path, dice):

@@ -1,8 +1,12 @@
 """What came since a copy. An event is read from the texts of the plain reading."""
 from companions.event import Event
+from companions.draw import rule_of
+from companions.draws import Draws, Kept
 from companions.prompt.since import Missing, came_since, left_in, missing_since
 from from_model import FromModel
 from scripts.models.plain_event import Event as PlainEvent
+
+NOT_DRAWN = Draws("/nowhere/e.event")
 
 
 class OfRounds:
@@ -31,18 +35,18 @@ def played(*, results=(), dropped=(), late=(), rounds=1):
 
 
 def test_nothing_came():
-    assert came_since(played(), played(), OfRounds({})) == []
+    assert came_since(played(), played(), OfRounds({}), NOT_DRAWN) == []
 
 
 def test_results_drops_and_players_come_as_lines_to_type():
     before = played(results=((1, (2, 1, 0)), (2, (0, 2, 0))), dropped=(3,), late=("Late Lou",))
-    lines = came_since(before, played(results=((1, (2, 0, 0)),)), OfRounds({}))
+    lines = came_since(before, played(results=((1, (2, 0, 0)),)), OfRounds({}), NOT_DRAWN)
     assert lines[1:] == ["  fix 1 1 2 1 0", "  2 0 2 0", "  drop 3", "  enrol Late Lou"]
 
 
 def test_a_round_that_was_paired_since_comes_with_its_key():
     both = ((1, (2, 0, 0)), (2, (2, 0, 0)))
-    lines = came_since(played(results=both, rounds=2), played(results=both), OfRounds({2: "ab" * 32}))
+    lines = came_since(played(results=both, rounds=2), played(results=both), OfRounds({2: "ab" * 32}), NOT_DRAWN)
     assert lines == ["Round 2 was paired since. Its key, for: pair again\n  " + "ab" * 32]
 
 
@@ -62,11 +66,11 @@ def cut_of_four(scores):
 
 
 def test_the_cut_and_scores_of_the_playoff_come_as_lines_to_type():
-    lines = came_since(cut_of_four([(1, 1, (2, 1, 0))]), cut_of_four(None), OfRounds({}))
+    lines = came_since(cut_of_four([(1, 1, (2, 1, 0))]), cut_of_four(None), OfRounds({}), NOT_DRAWN)
     assert [line for line in lines if "cut" in line or "play " in line] == [
         "The playoff was begun since. To begin it again: cut", "  play final 2 1"
     ]
-    lines = came_since(cut_of_four([(1, 1, (2, 1, 0))]), cut_of_four([]), OfRounds({}))
+    lines = came_since(cut_of_four([(1, 1, (2, 1, 0))]), cut_of_four([]), OfRounds({}), NOT_DRAWN)
     assert [line for line in lines if line.startswith("  ")] == ["  play final 2 1"]
 
 
@@ -88,3 +92,14 @@ def test_what_is_left_out():
     assert left_in("but 1 3", missing) == left_in("But 3,1", missing) == [two]
     for answer in ("", "but", "but 4", "but 0", "but x", "1 3", "1 2 0", "maybe"):
         assert left_in(answer, missing) is None
+
+
+def test_a_round_that_was_drawn_comes_with_its_number(tmp_path):
+    draws = Draws(f"{tmp_path}/e.event")
+    draws.keep_rule(rule_of("each 4d20"))
+    draws.keep_number(2, Kept("3 8 11 17"))
+    before, now = played(results=((1, (2, 0, 0)), (2, (2, 0, 0))), rounds=2), played(results=((1, (2, 0, 0)), (2, (2, 0, 0))))
+    lines = came_since(before, now, OfRounds({2: "ab" * 32}), draws)
+    assert lines[0] == "Round 2 was paired since. To pair it by its number, 3 8 11 17: pair"
+    draws.keep_rule(rule_of("off"))
+    assert came_since(before, now, OfRounds({2: "ab" * 32}), draws)[0].startswith("Round 2 was paired since. Its key")

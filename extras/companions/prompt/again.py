@@ -30,7 +30,6 @@ class Again:
 
     def plan(self, rest: str) -> None:
         session = self.session
-        session.must_be_ours("plan")
         plan = plan_now(session)
         if not rest:
             session.say(plan.shown(len(session.event.rounds)))
@@ -54,7 +53,6 @@ class Again:
         words = rest.split()
         if not words or words[0].lower() != "back" or len(words) < 2:
             raise Declined(TAKE_BACK)
-        self.session.must_be_ours("take back")
         if words[1].lower() == "drop":
             self.take_back_drop(" ".join(words[2:]))
         elif re.fullmatch("[0-9]{1,3}", words[1]) and len(words) == 2:
@@ -79,7 +77,7 @@ class Again:
         self.must_be_so_still(event)
         play_again(session, Change(table=match.place))
         session.doubts.end(number, match.place)
-        session.say_filled(f"{shown.replace(match.score, '-', 1)} is open again.")
+        session.say_filled(f"{shown.replace(str(match.score), '-', 1)} is open again.")
 
     def must_be_so_still(self, before: Event) -> None:
         """Another window may have done something while a question stood."""
@@ -120,7 +118,6 @@ class Again:
 
     def remove(self, rest: str) -> None:
         session = self.session
-        session.must_be_ours("remove")
         if not rest:
             raise Declined("Type a number or a name, as: remove 38")
         player = self.players.found(rest)

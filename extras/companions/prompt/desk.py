@@ -12,6 +12,8 @@ from companions.event import Phase
 from companions.names import begun, visible
 from companions.program import FAULTS, Declined, NoAnswer, Refusal, Refused, Source
 from companions.prompt.again import Again
+from companions.prompt.drawing import Drawing
+from companions.prompt.entering import Entering
 from companions.prompt.evening import Evening
 from companions.prompt.lines import Input, OutOfStep
 from companions.prompt.listing import Listing
@@ -23,7 +25,16 @@ from companions.prompt.printing import Printing
 from companions.prompt.results import Results
 from companions.prompt.rounds import Rounds
 from companions.prompt.session import Session, prompt_at, why_not_used
-from companions.prompt.texts import ALL_COMMANDS, BEGINNING, COMMANDS, PLAYOFF
+from companions.prompt.texts import (
+    ALL_COMMANDS,
+    BEGINNING,
+    COMMANDS,
+    FIRST_PAIR,
+    FIRST_PAIR_BY_DICE,
+    PAIR,
+    PAIR_BY_DICE,
+    PLAYOFF,
+)
 from companions.sheets.parts import PARTS
 
 # the command line's words for what is shorter here, and other spellings; they are taken, and not offered
@@ -63,7 +74,8 @@ class Desk(cmd.Cmd):
         self.players, self.evening = Players(self.session), Evening(self.session)
         self.listing, self.phones = Listing(self.session), Phones(self.session)
         self.printing, self.again = Printing(self.session), Again(self.session, self.players)
-        self.news = News(self.session)
+        self.entering = Entering(self.session, self.players)
+        self.drawing, self.news = Drawing(self.session, self.rounds), News(self.session)
         names = self.get_names()
         self.words = sorted(name[3:] for name in names if name.startswith("do_"))
 
@@ -104,10 +116,23 @@ class Desk(cmd.Cmd):
         only("phones", rest)
         self.phones.list_open()
 
+    def do_judge(self, rest: str) -> None:
+        self.phones.judge(rest)
+
+    def do_note(self, rest: str) -> None:
+        self.phones.note(rest)
+
     # ---- rounds and the playoff
 
     def do_pair(self, rest: str) -> None:
-        self.rounds.pair(rest)
+        pairs = self.drawing.pair if self.session.draws.rule else self.rounds.pair
+        pairs(rest)
+
+    def do_draw(self, rest: str) -> None:
+        self.drawing.draw(rest)
+
+    def do_number(self, rest: str) -> None:
+        self.drawing.number(rest)
 
     def do_round(self, rest: str) -> None:
         self.rounds.show_round(rest)
@@ -169,6 +194,9 @@ class Desk(cmd.Cmd):
     def do_import(self, rest: str) -> None:
         self.players.import_list(rest)
 
+    def do_entries(self, rest: str) -> None:
+        self.entering.go(rest)
+
     # ---- the event as a whole
 
     def do_init(self, rest: str) -> None:
@@ -224,7 +252,10 @@ class Desk(cmd.Cmd):
         if phase in (Phase.PLAYOFF, Phase.FINISHED):
             return PLAYOFF
         is_before = phase is Phase.ENROLLING or (phase is None and self.session.is_new())
-        return BEGINNING if is_before else COMMANDS
+        text = BEGINNING if is_before else COMMANDS
+        if not self.session.draws.is_on:
+            return text
+        return text.replace(FIRST_PAIR, FIRST_PAIR_BY_DICE).replace(PAIR, PAIR_BY_DICE)
 
     def do_quit(self, rest: str) -> bool:
         only("quit", rest)
@@ -312,6 +343,7 @@ class Desk(cmd.Cmd):
                 )
             else:
                 session.say_where()
+                self.drawing.go_on()
                 self.say_unused_key()
                 if self.lines.is_terminal:
                     self.evening.say_what_is_missing()
@@ -330,7 +362,7 @@ class Desk(cmd.Cmd):
 
     def say_unused_key(self) -> None:
         """Of a key that was written down before the prompt was ended, or killed."""
-        newest = self.session.keys.all()[-1:]
+        newest = [] if self.session.draws.rule else self.session.keys.all()[-1:]
         if newest and newest[0][0] > len(self.session.event.rounds):
             self.session.say(
                 f"{self.session.file}.keys has a key for round {newest[0][0]}, which is not paired.",

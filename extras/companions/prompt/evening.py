@@ -9,13 +9,14 @@ from typing import Optional
 
 from companions.checking import fault_of, opened
 from companions.clock import Clock, keep_clock, kept_clock, start_clock, stop_clock
+from companions.codes import path_of as path_of_secret
+from companions.entries import Entries
 from companions.copies import Copy
 from companions.event import Event, Phase, read_or_none
 from companions.files import move, time_stamp
 from companions.holding import held_by_nobody
 from companions.lists import Bracket, Players, Rounds
 from companions.names import visible
-from companions.phones.codes import path_of as path_of_secret
 from companions.plan import plan_of, usual_rounds
 from companions.program import FAULTS, Declined, Refused
 from companions.prompt.lines import minutes_of, numbers_in, unbroken
@@ -32,7 +33,6 @@ class Evening:
 
     def init(self, rest: str) -> None:
         session = self.session
-        session.must_be_ours("init")
         found = re.fullmatch(r"(.*\S)\s+([0-9]+)\s+([0-9]+)", rest)
         if not found:
             raise Declined("Type a name, the rounds and the cut, as: init Friday Night 3 0")
@@ -44,7 +44,9 @@ class Evening:
         with unbroken():
             session.send(Command(("init", *found.groups()), lambda event: not event.players))
             kept = (session.keys.path, session.copies.folder, session.doubts.path, session.names.path)
-            for path in (*kept, path_of_secret(session.file), session.reports.path, f"{session.file}.clock"):
+            others = path_of_secret(session.file), session.reports.path, session.notes.path
+            entries = Entries(session.file).path
+            for path in (*kept, *others, entries, f"{session.file}.clock", session.draws.folder):
                 self.put_aside(path)
             keep_title(session.file, found[1])
         session.has_moved = True
@@ -87,7 +89,6 @@ class Evening:
 
     def start(self) -> None:
         session = self.session
-        session.must_be_ours("start")
         self.must_work_out()
         with unbroken():
             session.send(Command(("start",), lambda event: event.phase is not Phase.ENROLLING))
@@ -113,7 +114,6 @@ class Evening:
             raise Declined(f"Nothing was started. As: {other}, and then start")
 
     def migrate(self) -> None:
-        self.session.must_be_ours("migrate")
         # nothing shows whether it was done, and doing it twice does no harm
         self.session.send_copied(Command(("migrate",), lambda _: False), "migrate")
 
@@ -130,7 +130,6 @@ class Evening:
     def copy(self, rest: str) -> None:
         """Copies the event beside itself, and to a second place if one is named here or was named before."""
         session = self.session
-        session.must_be_ours("copy")
         if rest in ("off", "stop"):
             session.second.forget()
             session.say(f"Copies are made beside {session.file} only from now on.")
@@ -180,7 +179,6 @@ class Evening:
 
     def back(self, rest: str) -> None:
         session = self.session
-        session.must_be_ours("back")
         copies = session.copies.all()
         words = numbers_in(rest, 0, 1, "back 3")
         if not copies:
@@ -210,8 +208,6 @@ class Evening:
     def say_what_is_missing(self) -> None:
         """Rounds that can't be played again, as one that a command line paired."""
         session = self.session
-        if session.source.is_served:
-            return
         for number in range(1, len(session.event.rounds) + 1):
             fault = fault_of(session.source, session.copies, session.keys, number)
             if fault:
@@ -238,9 +234,12 @@ class Evening:
             # whatever came while the question stood came since the copy too
             before = read_or_none(session.source)
             away = session.copies.put_in_place(copy)
+            has_draws = session.draws.take_from(session.copies.draws)
         session.has_moved = True
         if away:
             session.say(f"The event that was in use is {visible(away.path)} now.")
+        if has_draws:
+            session.say(f"What was drawn is in {visible(session.draws.folder)} again, from the copies.")
         session.say_where()
         if before:
             self.type_again(before)
@@ -250,7 +249,7 @@ class Evening:
         session = self.session
         missing = missing_since(before, session.event)
         if not missing or not session.lines.is_terminal:
-            session.say(*came_since(before, session.event, session.keys))
+            session.say(*came_since(before, session.event, session.keys, session.draws))
             return
         session.say("What came since:", *(f"{at:4}  {it.line}" for at, it in enumerate(missing, 1)))
         question = "Type it again, or but 1 3 to leave some out? (y or n)"
@@ -260,7 +259,7 @@ class Evening:
                 self.send_again(it)
         session.look_again()
         session.say_where()
-        session.say(*rounds_since(before, session.event, session.keys))
+        session.say(*rounds_since(before, session.event, session.keys, session.draws))
 
     def send_again(self, missing: Missing) -> None:
         """What is refused is said, and the others go on."""

@@ -9,12 +9,13 @@ import signal
 import sys
 import textwrap
 import threading
-from typing import Callable, Iterator, List, Optional, Protocol
+from typing import Callable, Iterator, Optional, Protocol
 
 from companions.clock import MOST_MINUTES
 from companions.names import visible
-from companions.program import Declined, Score
+from companions.program import Declined
 from companions.prompt.offers import Offers
+from companions.score import Score
 
 try:
     import readline
@@ -117,18 +118,21 @@ class Input:
         self.typing = typing_at_terminal(offers) if sys.stdin.isatty() else None
         # lines that came with one that was asked for, as they do when several are pasted
         self.ahead: list[str] = []
-        # the prompt at which a line is being typed
+        # the prompt at which a line is being typed, and how many lines were asked for by then
         self.asking: Optional[str] = None
+        self.asked = 0
         self.screen = threading.Lock()
 
     @property
     def is_asking(self) -> bool:
         return self.asking is not None
 
-    def say_above(self, lines: List[str], prompt: Optional[str] = None) -> Optional[str]:
-        """What was typed of the line by then, or None if nothing was said. The prompt may change with it."""
+    def say_above(self, lines: list[str], asked: int, prompt: Optional[str] = None) -> Optional[str]:
+        """What was typed of the line by then, or None if nothing was said, as where the line for which it was
+        found out was entered meanwhile. The prompt may change with it.
+        """
         with self.screen:
-            if not lines or not self.typing or self.asking is None:
+            if not lines or not self.typing or self.asking is None or self.asked != asked:
                 return None
             self.asking = prompt or self.asking
             typed = self.typing.typed()
@@ -153,7 +157,9 @@ class Input:
         return line.rstrip("\r\n")
 
     def typed_line(self, typing: Typing, prompt: str) -> str:
-        self.asking = prompt
+        with self.screen:
+            self.asked += 1
+            self.asking = prompt
         try:
             return self.first_of(typing.line, prompt)
         finally:
@@ -246,9 +252,8 @@ def with_score(text: str) -> str:
 
 
 def score_in(words: list[str]) -> Score:
-    """The three counts, with 0 for a count of drawn games that isn't there."""
-    x, y, *rest = words
-    return x, y, (rest[0] if rest else "0")
+    """Of two or three counts, without or with drawn games."""
+    return Score(*map(int, words))
 
 
 def minutes_in(text: str) -> Optional[int]:

@@ -33,7 +33,6 @@ class Listing:
         session = self.session
         if kind == "standings":
             return standings_csv(session.event)
-        session.must_be_ours("export")
         return playoff_csv(session.event) if kind == "playoff" else session.source.text("export", kind)
 
     def write(self, path: str, text: str) -> None:
@@ -47,7 +46,6 @@ class Listing:
     def final(self, rest: str) -> None:
         """The final ranking, or the first ones of it."""
         session = self.session
-        session.must_be_ours("final")
         first = int(numbers_in(rest, 0, 1, "final 8")[0]) if rest else None
         ranking = final_ranking(session.event)
         if not ranking:

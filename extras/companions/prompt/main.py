@@ -7,8 +7,8 @@ import os
 import sys
 from typing import NoReturn, Optional
 
-from companions.arguments import add_program, port_word
-from companions.program import Declined, OverFile, OverPort, Source, ready
+from companions.arguments import add_program
+from companions.program import Declined, Source, ready
 from companions.prompt.desk import Desk
 from companions.prompt.texts import ALL_COMMANDS
 from companions.turn import Turn
@@ -49,10 +49,7 @@ def parser() -> argparse.ArgumentParser:
     below = f"at the prompt:\n{ALL_COMMANDS}\n{EXAMPLE}"
     as_it_is = argparse.RawDescriptionHelpFormatter
     words = Words(prog=COMMAND, description=DESCRIPTION, epilog=below, formatter_class=as_it_is)
-    add = words.add_argument
-    add("file", metavar="FILE", help="the event's file")
-    over_http = "hand in over HTTP, to `event_reporter serve FILE N COUNT`"
-    add("--port", type=port_word, metavar="N", help=over_http)
+    words.add_argument("file", metavar="FILE", help="the event's file")
     add_program(words)
     return words
 
@@ -66,17 +63,12 @@ def prepare_streams() -> None:
             stream.reconfigure(line_buffering=True)
 
 
-def source_for(words: argparse.Namespace) -> Source:
-    if words.port:
-        return OverPort(words.port)
-    return OverFile(ready(words.program), words.file, Turn(words.file, makes_file=True))
-
-
 def main(arguments: Optional[list[str]] = None) -> int:
     words = parser().parse_args(arguments)
     prepare_streams()
     try:
-        return Desk(source_for(words), words.file).go()
+        source = Source(ready(words.program), words.file, Turn(words.file, makes_file=True))
+        return Desk(source, words.file).go()
     except Declined as fault:
         print(f"{COMMAND}: {fault}", file=sys.stderr)
         return 3

@@ -8,6 +8,7 @@ from typing import Iterable
 from prompt_toolkit import PromptSession
 from prompt_toolkit.completion import CompleteEvent, Completer, Completion
 from prompt_toolkit.document import Document
+from prompt_toolkit.filters import Condition
 from prompt_toolkit.input.typeahead import get_typeahead, store_typeahead
 from prompt_toolkit.patch_stdout import patch_stdout
 
@@ -26,9 +27,15 @@ class Menu(Completer):
 
 class Menus:
     def __init__(self, offers: Offers):
-        self.lines: PromptSession[str] = PromptSession(completer=Menu(offers), reserve_space_for_menu=6)
+        # the menu takes its room once something is typed: until then what was said last keeps the screen
+        self.lines: PromptSession[str] = PromptSession(
+            completer=Menu(offers), reserve_space_for_menu=6, complete_while_typing=Condition(self.has_begun)
+        )
         # a question has an answer of its own, and no menu
         self.answers: PromptSession[str] = PromptSession()
+
+    def has_begun(self) -> bool:
+        return bool(self.typed())
 
     def line(self, prompt: str) -> str:
         # what is printed meanwhile stands above the line

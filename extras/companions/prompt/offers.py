@@ -29,15 +29,15 @@ class Offer:
 Offers = Callable[[str], List[Offer]]
 
 
-def offers_of_words(part: str, words: Iterable[str]) -> List[Offer]:
+def offers_of_words(part: str, words: Iterable[str]) -> list[Offer]:
     return [Offer(part, word, word) for word in words if word.startswith(part)]
 
 
-def offers_of_files(part: str) -> List[Offer]:
+def offers_of_files(part: str) -> list[Offer]:
     return [Offer(part, path, path) for path in sorted(glob.glob(f"{glob.escape(part)}*"))]
 
 
-def offers_of_players(part: str, players: Iterable[Player]) -> List[Offer]:
+def offers_of_players(part: str, players: Iterable[Player]) -> list[Offer]:
     """Players by what is typed of the name, those whose name begins so first. A name that a terminal can't
     show is left out.
     """

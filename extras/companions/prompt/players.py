@@ -12,11 +12,13 @@ from companions.names import compared, found_by, plain, visible
 from companions.program import Declined
 from companions.prompt.lines import unbroken
 from companions.prompt.replays import play_again
-from companions.prompt.session import Command, Session, counted
+from companions.prompt.session import Command, Session
 from companions.replaying import Change
 from companions.rosters import Roster, path_and_codec, read_list, roster_of, tidy, why_not, written_list
 from companions.shown_names import ShownName
 from companions.stages import slot_shown
+from companions.wording import counted
+from companions.working import Working, part_shown, share_shown, working_of
 
 # how like two words of a name are, if one may be a misspelt other
 LIKENESS = 0.7
@@ -56,6 +58,19 @@ class Players:
             self.session.say(f"{player.number:4} {dropped} {visible(player.name)}{self.seat_of(player)}")
         if len(found) == 1:
             self.session.say(*self.place_of(found[0]), *self.matches_of(found[0]))
+            self.say_working(found[0])
+
+    def say_working(self, player: Player) -> None:
+        """How the tiebreakers come about, by each opponent; and loudly, if the program prints others."""
+        working = working_of(self.session.event, player.number)
+        if not working:
+            return
+        self.session.say(*working_lines(working))
+        for name, printed, due in working.differing:
+            self.session.say_failed(
+                f"WRONG: the standings print {name} {printed}, and by the results it is {due}.\n"
+                "That is a fault of ours. Keep the file, and check it: event-check"
+            )
 
     def place_of(self, player: Player) -> list[str]:
         """Rank and points, once a round is complete."""
@@ -95,7 +110,6 @@ class Players:
     def drop(self, rest: str) -> None:
         """Of one player, or of several by their numbers."""
         session = self.session
-        session.must_be_ours("drop")
         if not rest:
             raise Declined("Type a number or a name, as: drop 23, or drop Ana")
         are_several = re.fullmatch(r"[0-9]{1,9}([\s,;]+[0-9]{1,9})+", rest)
@@ -121,7 +135,6 @@ class Players:
 
     def enrol(self, rest: str) -> None:
         session = self.session
-        session.must_be_ours("enrol")
         name = tidy(rest)
         self.must_be_one(name)
         alike = self.alike(name)
@@ -165,7 +178,6 @@ class Players:
 
     def import_list(self, rest: str) -> None:
         session = self.session
-        session.must_be_ours("import")
         if not rest:
             raise Declined("Type the name of a list, as: import names.csv")
         path, codec = path_and_codec(rest)
@@ -178,11 +190,19 @@ class Players:
         with unbroken(), written_list(names) as written:
             try:
                 session.send(Command(("import", written), lambda event: all(map(event.named, names))))
+                self.keep_last_names(roster)
                 session.say(*self.rounds_lost())
             except Declined as fault:
                 if not str(fault).startswith("bad csv"):
                     raise
                 raise Declined(f"{fault}\nNobody was enrolled. A list has at most 512 names.") from None
+
+    def keep_last_names(self, roster: Roster) -> None:
+        """For lists by last name."""
+        found = [(self.session.event.named(name), last) for name, last in roster.lasts.items()]
+        told = [ShownName(player.number, player.name, player.name, last) for player, last in found if player]
+        if told:
+            self.session.names.keep(*told)
 
     def names_to_enrol(self, roster: Roster) -> list[str]:
         """The names for which the answers are yes."""
@@ -226,7 +246,6 @@ class Players:
         """Before the start the event is made again with the right name; after it the player is shown by it.
         """
         session = self.session
-        session.must_be_ours("rename")
         found = re.fullmatch(r"([0-9]{1,9})\s+(.+)", rest)
         if not found:
             raise Declined("Type a number and the right name, as: rename 4 Peter Meyer")
@@ -250,12 +269,30 @@ class Players:
             raise Declined("Nobody was renamed. Whose number is it? See: who, as: who an")
         if session.event.phase is Phase.ENROLLING:
             play_again(session, Change(renamed=(number, name)))
+            session.names.rename(number, name, name)
             session.say(f"{shown_player(player)} is {visible(name)} now.")
         else:
-            session.names.keep(ShownName(number, enrolled, name))
+            session.names.rename(number, enrolled, name)
             session.look_again()
             session.say(f"{shown_player(player)} is shown as {visible(name)} from now on.")
             session.say("The program's own lists keep the name that was enrolled.")
+
+
+def working_lines(working: Working) -> list[str]:
+    """The working of a player's tiebreakers, in lines of a terminal."""
+    totals = working.totals
+    lines = [f"  GWP {part_shown(totals.game_points, 3 * totals.games, totals.game_wins)}"]
+    for met in working.opponents:
+        other = met.totals
+        lines += [
+            f"  round {met.round}, {met.score} against {shown_player(met.opponent or working.player)}:",
+            f"    MWP {part_shown(other.points, 3 * other.rounds, other.match_wins)}",
+            f"    GWP {part_shown(other.game_points, 3 * other.games, other.game_wins)}",
+        ]
+    return lines + [
+        f"  OMW, the average of their MWP: {share_shown(working.opponents_match_wins)}",
+        f"  OGW, the average of their GWP: {share_shown(working.opponents_game_wins)}",
+    ]
 
 
 def have_a_word_in_common(one: str, other: str) -> bool:

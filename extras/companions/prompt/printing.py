@@ -5,22 +5,22 @@ import os
 import re
 import shutil
 import subprocess
-from typing import Dict, List, Tuple
 
 from companions.names import visible
 from companions.program import Declined
 from companions.prompt.session import Session
+from companions.reading import Unread, read_whole
 from companions.sheets.files import NEXT_OF_SHEETS, must_write, page_beside
 from companions.sheets.making import PACKAGE, Wanted, page_maker
 from companions.sheets.parts import PARTS
-from companions.sheets.reading import Unread, read_whole
 
 NO_JINJA = f"Pages are made by Jinja2, which is not installed here. On Debian:\n{PACKAGE}"
 OPENED = "It opens in the browser. Print it there: each part begins a page of its own."
-# what `serve` doesn't hand out
-OF_THE_FILE = ("bracket", "final")
+NUMBERS = """\
+Tables are named for slips, and players for links, as: print slips 4 17
+print links 38"""
 # what people say for parts that have other names
-OTHER_WORDS: Dict[str, Tuple[str, ...]] = {
+OTHER_WORDS: dict[str, tuple[str, ...]] = {
     "pairings": ("tables", "names"),
     "ranking": ("final",),
     "all": (),
@@ -31,17 +31,18 @@ OTHER_WORDS: Dict[str, Tuple[str, ...]] = {
 def wanted_by(file: str, rest: str) -> Wanted:
     """What a line asks for: parts, and of slips the tables."""
     words = re.split(r"[\s,]+", rest.strip().lower()) if rest.strip() else []
-    kinds: List[str] = []
+    kinds: list[str] = []
     for word in words:
         if not re.fullmatch("[0-9]{1,3}", word):
             kinds += kinds_named(word)
-    tables = frozenset(int(word) for word in words if word.isdecimal())
-    if tables and kinds != ["slips"]:
-        raise Declined("Tables are named for slips, as: print slips 4 17")
-    return Wanted(file, kinds or None, tables=tables or None, may_be_empty=False)
+    numbers = frozenset(int(word) for word in words if word.isdecimal()) or None
+    if numbers and kinds not in (["slips"], ["links"]):
+        raise Declined(NUMBERS)
+    tables, players = (numbers, None) if kinds == ["slips"] else (None, numbers)
+    return Wanted(file, kinds or None, tables=tables, players=players, may_be_empty=False)
 
 
-def kinds_named(word: str) -> Tuple[str, ...]:
+def kinds_named(word: str) -> tuple[str, ...]:
     if word in PARTS:
         return (word,)
     if word in OTHER_WORDS:
@@ -83,9 +84,6 @@ class Printing:
         session = self.session
         # a refusal is explained as one
         session.event.read()
-        for kind in wanted.parts or ():
-            if kind in OF_THE_FILE:
-                session.must_be_ours(kind)
         try:
             return read_whole(session.source, session.file, page_maker(wanted))
         except ImportError:

@@ -8,9 +8,10 @@ from companions.doubts import Doubt
 from companions.event import Phase
 from companions.lists import Match
 from companions.names import begun
-from companions.program import Declined, Refusal, Refused, Score
+from companions.program import Declined, Refusal, Refused
 from companions.prompt.lines import numbers_in, score_in, unbroken, with_score
 from companions.prompt.session import Command, Session
+from companions.score import Score
 from companions.stages import slot_shown
 
 
@@ -39,16 +40,18 @@ class Results:
     def must_be_of_the_round_shown(self, table: str, score: Score) -> None:
         """Asks, if another window has paired since this one showed a round: the slip may be of that one."""
         session = self.session
-        event, now, shown = session.event, session.event.progress, session.shown
+        event, now = session.event, session.event.progress
         match = event.match(now.number, table)
         if session.is_shown(now) or not match or match.is_bye:
             return
+        # who types right after the news has read what was shown before them
+        shown = session.shown_before if now == session.shown else session.shown
         if now.number > shown.number:
             when = session.time_of_pairing(now.number).rstrip(",")
             session.say(f"Round {now.number} was paired meanwhile{when}, in another window.")
         else:
             session.say("Another window went back to a copy meanwhile, or played the event again.")
-        session.say(f"Round {now.number}, table {table}: {event.shown(match, '-'.join(score))}")
+        session.say(f"Round {now.number}, table {table}: {event.shown(match, score)}")
         if not session.lines.says_yes(f"Is this a score of round {now.number}?"):
             raise Declined(self.of_the_round_before(table, shown.number, now.number))
         session.look_again()
@@ -72,11 +75,11 @@ class Results:
             self.report(int(words[0]), words[1], score_in(words[2:]))
 
     def report(self, number: int, table: str, score: Score) -> None:
-        session, shown = self.session, "-".join(score)
+        session = self.session
         match = session.event.match(number, table)
-        named = f"round {number}, table {table}: {session.event.shown(match, shown)}" if match else ""
+        named = f"round {number}, table {table}: {session.event.shown(match, score)}" if match else ""
         command = Command(
-            ("result", str(number), table, *score), lambda event: event.score_at(number, table) == shown
+            ("result", str(number), table, *score.words), lambda event: event.score_at(number, table) == score
         )
         try:
             with unbroken(), session.source.turn.taken():
@@ -86,7 +89,7 @@ class Results:
             session.look_again()
             if match and not match.is_bye:
                 session.say(f"Not stored: {named}")
-            raise refused.with_more(self.advice(refused, number, table, shown)) from None
+            raise refused.with_more(self.advice(refused, number, table, score)) from None
         session.look_again()
         if named:
             session.say(begun(named))
@@ -98,27 +101,24 @@ class Results:
         """Another window may have gone back to a copy, and paired anew, since the names were read."""
         session = self.session
         session.look_again()
-        if match and not session.source.is_served:
+        if match:
             there = session.event.match(number, str(match.place))
             if not there or (there.first, there.second) != (match.first, match.second):
                 raise Declined("Another window has changed the round. See: where, and type the line again.")
 
-    def advice(self, refused: Refused, number: int, table: str, shown: str) -> str:
+    def advice(self, refused: Refused, number: int, table: str, score: Score) -> str:
         if refused.number != Refusal.ALREADY_REPORTED:
             return ""
         stored = self.session.event.score_at(number, table)
-        if stored == shown:
+        if stored is None:
+            return ""
+        if stored == score:
             return f"Stored is {stored}, the very same. All is well."
-        fix = f"fix {number} {table} {' '.join(shown.split('-'))}"
-        if self.session.source.is_served:
-            without_port = "If that is wrong, end `serve` and this, and type without --port:"
-            return f"Stored is {stored}. {without_port}\n{fix}"
-        return f"Stored is {stored}. If that is wrong: {fix}"
+        return f"Stored is {stored}. If that is wrong: fix {number} {table} {score.typed}"
 
     def fix(self, rest: str) -> None:
         """Replaces a score: of the newest round by table and score, of any round if that comes first."""
         session = self.session
-        session.must_be_ours("fix")
         words = self.numbers(rest, 2, 5, "fix 17 0 2, or fix 1 17 0 2 for round 1")
         if len(words) == 2:
             raise Declined("Type numbers, such as fix 17 0 2, or fix 1 17 0 2 for round 1")
@@ -141,21 +141,21 @@ class Results:
             raise Declined(f"Round {number} has no table {table}.{other}")
         if not match or match.is_bye or match.is_open or (number == newest and len(words) != 4):
             return
-        shown = session.event.shown(match, "-".join(score))
+        shown = session.event.shown(match, score)
         session.say(f"Round {number}, table {table}: {shown}, in place of {match.score}")
         if not session.lines.says_yes("Replace it?"):
             raise Declined(f"Nothing was replaced.{other}")
 
     def correct(self, number: int, table: str, score: Score) -> None:
-        session, shown = self.session, "-".join(score)
+        session = self.session
         match = session.event.match(number, table)
-        words = ("correct", str(number), table, *score)
+        words = ("correct", str(number), table, *score.words)
         with unbroken(), session.source.turn.taken():
             self.must_sit_there_still(number, match)
-            session.send(Command(words, lambda event: event.score_at(number, table) == shown))
+            session.send(Command(words, lambda event: event.score_at(number, table) == score))
         if match and not match.is_bye:
             before = f", in place of {match.score}" if match.score else ""
-            session.say(f"Round {number}, table {table}: {session.event.shown(match, shown)}{before}")
+            session.say(f"Round {number}, table {table}: {session.event.shown(match, score)}{before}")
         session.doubts.end(number, int(table))
         session.settle(number, table)
 
@@ -173,7 +173,7 @@ class Results:
         match = session.event.match(number, table)
         if not match or match.is_bye:
             raise Declined(f"Round {number} has no table {table}. See: round {number}")
-        if match.is_open:
+        if not match.score:
             session.say(f"Round {number}, table {table}: {session.event.shown(match)}")
             raise Declined("It has no score, so there is nothing to doubt. It is open.")
         session.doubts.add(Doubt(number, match.place, match.score))
@@ -181,11 +181,11 @@ class Results:
         is_newest = number == len(session.event.rounds)
         fix = f"fix {table} X Y" if is_newest else f"fix {number} {table} X Y"
         session.say(f"Once the right score is there: {fix}. If it was right after all,")
-        session.say(f"enter it again: fix {number} {table} {' '.join(match.score.split('-'))}")
+        session.say(f"enter it again: fix {number} {table} {match.score.typed}")
 
     def shown_doubt(self, doubt: Doubt) -> str:
         match = self.session.event.match(doubt.number, str(doubt.table))
-        shown = self.session.event.shown(match) if match else doubt.score
+        shown = self.session.event.shown(match) if match else str(doubt.score)
         return f"In doubt: round {doubt.number}, table {doubt.table}: {shown}"
 
     def list_open(self) -> None:

@@ -20,8 +20,9 @@ from companions.copies import Copy
 from companions.names import begun
 from companions.program import FAULTS, Declined, Refusal, Refused
 from companions.prompt.lines import minutes_in, minutes_of, numbers_in, score_in, unbroken, with_score
-from companions.prompt.session import Command, Session, ranges, tables_named
+from companions.prompt.session import Command, Session, tables_named
 from companions.stages import slot_shown, words_of_slot
+from companions.wording import ranges
 
 
 class Rounds:
@@ -46,7 +47,6 @@ class Rounds:
 
     def pair(self, rest: str) -> None:
         session = self.session
-        session.must_be_ours("pair")
         word, minutes = word_and_minutes(rest)
         if not session.goes_on_in_doubt("Pair"):
             raise Declined("Nothing was paired.")
@@ -93,10 +93,13 @@ class Rounds:
             session.send(Command(("pair", str(number), key), lambda event: len(event.rounds) >= number), copy)
         except Refused as refused:
             session.look_again()
-            if refused.number != Refusal.ROUND_OPEN:
-                raise
-            more = f"Round {number - 1}, {tables_named(session.event.open_tables())}"
-            raise refused.with_more(more) from None
+            raise self.with_open_tables(refused, number) from None
+
+    def with_open_tables(self, refused: Refused, number: int) -> Refused:
+        """The tables that are open, if a round was refused since some are."""
+        if refused.number != Refusal.ROUND_OPEN:
+            return refused
+        return refused.with_more(f"Round {number - 1}, {tables_named(self.session.event.open_tables())}")
 
     def is_unused(self, number: int, fault: Exception) -> bool:
         """Whether the round was surely not paired by the key that was just sent."""
@@ -138,14 +141,13 @@ class Rounds:
         """Whether a round is the one that its key gives: the program pairs the copy that was made before it.
         """
         session = self.session
-        session.must_be_ours("check")
         number = int(numbers_in(rest or str(len(session.event.rounds)), 1, 1, "check 3")[0])
         if not 1 <= number <= len(session.event.rounds):
             raise Declined(f"Round {number} is not paired. See: where")
         copies, keys = copies_before(session.copies, number), keys_of(session.keys, number)
         if not copies or not keys:
             missing = "no copy was made before it" if not copies else f"{session.file}.keys has no key of it"
-            raise Declined(f"Round {number} can't be checked here: {missing}. See: scripts/check, in GUIDE")
+            raise Declined(f"Round {number} can't be checked here: {missing}. See: event-check")
         found = nearest(session.source, copies, keys, number, session.event.rounds[number - 1])
         if not found:
             raise Declined(f"Round {number} can't be checked here: none of its copies pairs it. See: back")
@@ -190,7 +192,6 @@ class Rounds:
     def standings_after(self, number: int) -> None:
         """They are kept in the copy that was made before the next round."""
         session = self.session
-        session.must_be_ours("standings after")
         paired, complete = len(session.event.rounds), session.event.complete_rounds()
         if not 1 <= number <= complete:
             raise Declined(f"Round {number} is not complete. Complete are: {complete}. See: where")
@@ -214,7 +215,6 @@ class Rounds:
 
     def cut(self) -> None:
         session = self.session
-        session.must_be_ours("cut")
         if not session.goes_on_in_doubt("Cut"):
             raise Declined("The playoff was not begun.")
         bracket = session.with_names(self.bracket_of_a_cut())
@@ -240,23 +240,22 @@ class Rounds:
 
     def play(self, rest: str) -> None:
         session = self.session
-        session.must_be_ours("play")
         stage, slot, counts = self.slot_and_counts(rest)
         score, first = score_in(counts), session.event.first_stage
-        shown, match = "-".join(score), session.event.slot(stage, slot)
-        named = f"{slot_shown(stage, int(slot), first)}: {session.event.shown(match, shown)}" if match else ""
+        match = session.event.slot(stage, slot)
+        named = f"{slot_shown(stage, int(slot), first)}: {session.event.shown(match, score)}" if match else ""
         if re.match(r"f(inal)?\s+1\s", rest, re.I) and len(counts) == 3:
             # the 1 may be meant as the place of the match
             if not session.lines.says_yes(f"{begun(named)}. Is this the score?"):
                 raise Declined("Nothing was stored. As: play final 2 0")
-        words = ("playoff", str(stage), slot, *score)
-        command = Command(words, lambda event: event.score_in(stage, slot) == shown)
+        words = ("playoff", str(stage), slot, *score.words)
+        command = Command(words, lambda event: event.score_in(stage, slot) == score)
         try:
             session.send_copied(command, f"play-{stage}-{slot}")
         except Refused as refused:
             if named:
                 session.say(f"Not stored: {named}")
-            if refused.number == Refusal.ALREADY_REPORTED and match:
+            if refused.number == Refusal.ALREADY_REPORTED and match and match.score:
                 refused.more = f"Stored is {match.score}. A score of the playoff is not corrected. See: back"
             raise
         comes_next = session.next_step()

@@ -13,10 +13,12 @@ from typing import Callable, Optional
 from companions.checking import copies_before, opened
 from companions.copies import Copies, Copy
 from companions.doubts import Doubt, Doubts
+from companions.draws import Draws
 from companions.event import Event, Phase, Progress, shown_player
 from companions.keys import Keys
 from companions.lists import Matches, Unreadable
 from companions.names import visible
+from companions.notes import Notes
 from companions.plan import plan_of
 from companions.program import (
     FAULTS,
@@ -38,11 +40,12 @@ from companions.prompt.texts import (
     NOT_SWISS,
     REFUSALS,
 )
-from companions.reports import Reports, TwoScores, settle, shown_score, two_scores
+from companions.reports import Reports, TwoScores, settle, two_scores
 from companions.second_place import SecondPlace
 from companions.shown_names import ShownNames, with_shown_names
 from companions.stages import slot_shown, slot_typed
-from companions.title import event_name, kept_title
+from companions.title import event_name
+from companions.wording import counted, ranges
 
 # neither `pair` nor `cut` goes on
 DEAD_ENDS = (Refusal.NO_PAIRING, Refusal.ROUNDS_NOT_DONE, Refusal.TOO_FEW_FOR_CUT)
@@ -63,10 +66,14 @@ class Session:
         self.source, self.file, self.lines = source, file, lines
         self.keys, self.copies, self.doubts = Keys(file), Copies(file, source.turn), Doubts(file)
         self.names, self.reports, self.second = ShownNames(file), Reports(file), SecondPlace(file)
+        self.notes = Notes(file)
+        self.draws = Draws(file)
         self.event = Event(source, file)
         self.has_failed = False
-        # what the prompt has shown of the event, when, and what it knows; and whether it went on itself since
-        self.shown, self.shown_at, self.known = Progress(), -math.inf, Progress()
+        # what the prompt has shown of the event, when, and what before that; what it knows; and whether it
+        # went on itself since
+        self.shown, self.shown_at, self.shown_before = Progress(), -math.inf, Progress()
+        self.known = Progress()
         self.has_moved = False
         # where no further round was found, for so many players
         self.stuck: Optional[tuple[Progress, int]] = None
@@ -80,6 +87,8 @@ class Session:
     # ---- which round the prompt has shown
 
     def show_progress(self, now: Progress, at: float = -math.inf) -> None:
+        if now != self.shown:
+            self.shown_before = self.shown
         self.shown, self.shown_at, self.known = now, at, now
 
     def show_now(self) -> None:
@@ -92,7 +101,7 @@ class Session:
 
     def moved_by_others(self) -> list[str]:
         """Told before a line is asked for: where another window has brought the event."""
-        if not self.lines.is_terminal or self.source.is_served:
+        if not self.lines.is_terminal:
             return []
         self.look_again()
         try:
@@ -132,7 +141,7 @@ class Session:
         with contextlib.suppress(*FAULTS):
             if self.event.stages:
                 return self.event.first_stage
-        plan = None if self.source.is_served else plan_of(self.file, self.source.turn)
+        plan = plan_of(self.file, self.source.turn)
         return plan.cut // 2 if plan else 0
 
     # ---- what is said
@@ -158,7 +167,7 @@ class Session:
         try:
             return with_shown_names(text, self.event.enrolled, self.event.players)
         except Unreadable as fault:
-            raise Declined(f"{self.source.named} is not event_reporter: {fault}.") from None
+            raise Declined(f"{self.source.program} is not event_reporter: {fault}.") from None
 
     def say_failed(self, text: str) -> None:
         self.has_failed = True
@@ -179,7 +188,7 @@ class Session:
             return MISSING
         if refused.number == Refusal.STORE:
             return why_not_used(self.file)
-        if refused.number in DEAD_ENDS and not self.source.is_served:
+        if refused.number in DEAD_ENDS:
             return self.way_out_of(refused.number)
         if refused.number == Refusal.NOT_SWISS:
             phase = self.phase_or_none()
@@ -223,7 +232,7 @@ class Session:
     def try_to_pair(self) -> None:
         """Has a copy paired, if the next round is due, so that `where` knows if there is none."""
         event, number = self.event, len(self.event.rounds)
-        if not number or event.open_tables() or self.source.is_served or event.phase is not Phase.SWISS:
+        if not number or event.open_tables() or event.phase is not Phase.SWISS:
             return
         with unbroken(), tempfile.TemporaryDirectory() as room:
             copy = self.copies.made(Copy(0, "", "", os.path.join(room, "next.event")))
@@ -254,9 +263,8 @@ class Session:
         return not os.path.exists(self.file) and not self.is_missing()
 
     def title(self) -> str:
-        """The event's name and the file's. While `serve` holds the file, only FILE.title has the name."""
-        served = self.source.is_served
-        kept = visible(kept_title(self.file) if served else event_name(self.file, self.source.turn))
+        """The event's name and the file's."""
+        kept = visible(event_name(self.file, self.source.turn))
         return f"{kept} ({self.file})" if kept else self.file
 
     def say_where(self) -> None:
@@ -264,7 +272,7 @@ class Session:
         self.try_to_pair()
         self.say_filled(f"{self.title()}, {self.event.phase.value}: {self.next_step()}")
         self.show_now()
-        plan = None if self.source.is_served else plan_of(self.file, self.source.turn)
+        plan = plan_of(self.file, self.source.turn)
         if plan:
             self.say(plan.shown(len(self.event.rounds) if self.event.phase is Phase.SWISS else 0))
 
@@ -280,7 +288,7 @@ class Session:
     def dead_end(self) -> str:
         """Where neither `pair` nor `cut` goes on, as far as it is known; or nothing."""
         event, number = self.event, len(self.event.rounds)
-        if not number or event.open_tables() or self.source.is_served or event.phase is not Phase.SWISS:
+        if not number or event.open_tables() or event.phase is not Phase.SWISS:
             return ""
         plan, left = plan_of(self.file, self.source.turn), self.players_left()
         if not plan:
@@ -315,8 +323,8 @@ class Session:
             in_doubt = [f"table {doubt.table} of round {doubt.number} ({doubt.score})" for doubt in doubts]
             self.say_filled(f"In doubt: {', '.join(in_doubt)}.")
         for found in twice:
-            said = shown_score(found.said[-1].score)
-            shown = f"stored is {shown_score(found.match.score)}, and a phone says {said}"
+            said = found.said[-1].score.short
+            shown = f"stored is {found.stored.short}, and a phone says {said}"
             self.say_filled(f"Two scores at table {found.match.place}: {shown}. See: phones")
         return self.lines.says_yes(f"{what} all the same?")
 
@@ -382,16 +390,12 @@ class Session:
     def copy_to_second_place(self, copy: Copy) -> None:
         """Each copy goes to the second place too, if there is one. If it can't, that is said once a round."""
         self.copies.thin()
+        self.copies.keep_draws()
         fault = self.second.copy(copy)
         if fault and self.round_without_copy != self.known.number:
             self.round_without_copy = self.known.number
             self.say(f"No copy was made at {visible(self.second.folder())}: {fault}.")
             self.say("The copy beside the event is there. Once the disk is back: copy")
-
-    def must_be_ours(self, name: str) -> None:
-        """What asks back or copies is turned down first where `serve` holds the file."""
-        if self.source.is_served:
-            self.source.ask(name)
 
 
 # ---- what comes next
@@ -422,8 +426,6 @@ def next_in_playoff(event: Event) -> str:
         for match in matches
         if match.is_open
     ]
-    if not still_open:
-        return "`serve` hands out no bracket"
     first = event.first_stage
     told = ", ".join(slot_shown(stage, slot, first) for stage, slot in still_open)
     return f"open: {told}. Next: play {slot_typed(*still_open[0], first)} 2 0"
@@ -453,18 +455,3 @@ def why_not_used(file: str) -> str:
     if os.path.exists(file) and not os.access(file, os.R_OK | os.W_OK):
         return f"You may not write {visible(file)}: `ls -l` shows whose it is."
     return ""
-
-
-def ranges(numbers: list[int]) -> str:
-    """Rising numbers, those that follow on each other as the first and the last."""
-    runs: list[list[int]] = []
-    for number in numbers:
-        if runs and number == runs[-1][-1] + 1:
-            runs[-1].append(number)
-        else:
-            runs.append([number])
-    return ", ".join(f"{run[0]}-{run[-1]}" if len(run) > 2 else ", ".join(map(str, run)) for run in runs)
-
-
-def counted(count: int, what: str) -> str:
-    return f"{count} {what}{'' if count == 1 else 's'}"

@@ -2,12 +2,13 @@
 from __future__ import annotations
 
 from dataclasses import dataclass
-from typing import Iterator, List, Optional, Tuple
+from typing import Iterator, Optional
 
+from companions.draws import Draws
 from companions.event import Event
 from companions.keys import Keys
 from companions.names import visible
-from companions.reports import shown_score
+from companions.reports import words_to_store
 from companions.stages import slot_typed
 
 
@@ -16,10 +17,10 @@ class Missing:
     """A command that has to be given again: as it is typed, and as it is sent."""
 
     line: str
-    words: Tuple[str, ...]
+    words: tuple[str, ...]
 
 
-def missing_since(before: Event, now: Event) -> List[Missing]:
+def missing_since(before: Event, now: Event) -> list[Missing]:
     """What can be typed again as it is, in an order in which it can: results and corrections of the rounds
     that are there, latecomers, and drops.
     """
@@ -32,11 +33,9 @@ def results_since(before: Event, now: Event) -> Iterator[Missing]:
             old = before.match(number, str(match.place))
             is_same_pair = old and (old.first, old.second) == (match.first, match.second)
             if old and is_same_pair and old.score and old.score != match.score:
-                score = old.score.split("-")
-                games = " ".join(score)
-                line = f"fix {number} {match.place} {games}" if match.score else f"{match.place} {games}"
                 word = "correct" if match.score else "result"
-                yield Missing(line, (word, str(number), str(match.place), *score))
+                words = (word, str(number), str(match.place), *old.score.words)
+                yield Missing(words_to_store(number, match, old.score), words)
 
 
 def players_since(before: Event, now: Event) -> Iterator[Missing]:
@@ -47,25 +46,32 @@ def players_since(before: Event, now: Event) -> Iterator[Missing]:
             yield Missing(f"drop {number}", ("drop", str(number)))
 
 
-def came_since(before: Event, now: Event, keys: Keys) -> List[str]:
+def came_since(before: Event, now: Event, keys: Keys, draws: Draws) -> list[str]:
     """All of it, as lines to type."""
     lines = [f"  {missing.line}" for missing in missing_since(before, now)]
     found = ["What came since, to type again where it still holds:", *lines] if lines else []
-    return found + rounds_since(before, now, keys)
+    return found + rounds_since(before, now, keys, draws)
 
 
-def rounds_since(before: Event, now: Event, keys: Keys) -> List[str]:
+def rounds_since(before: Event, now: Event, keys: Keys, draws: Draws) -> list[str]:
     """The rounds and the playoff, which depend on all that comes before them."""
     found = []
     for number in range(len(now.rounds) + 1, len(before.rounds) + 1):
-        key = keys.last(number) or "not in the list of keys"
-        found.append(f"Round {number} was paired since. Its key, for: pair again\n  {key}")
-        matches = [match for match in before.rounds[number - 1] if match.score and not match.is_bye]
-        found += [f"  {match.place} {' '.join(match.score.split('-'))}" for match in matches]
+        found.append(f"Round {number} was paired since. {way_to_pair(number, keys, draws)}")
+        matches = [match for match in before.rounds[number - 1] if not match.is_bye]
+        found += [f"  {match.place} {match.score.typed}" for match in matches if match.score]
     return found + playoff_since(before, now)
 
 
-def playoff_since(before: Event, now: Event) -> List[str]:
+def way_to_pair(number: int, keys: Keys, draws: Draws) -> str:
+    """How the round is paired again as it was: by its number, which is for good, or by its key."""
+    drawn = draws.numbers(number) if draws.is_on else []
+    if drawn:
+        return f"To pair it by its number, {drawn[-1].number}: pair"
+    return f"Its key, for: pair again\n  {keys.last(number) or 'not in the list of keys'}"
+
+
+def playoff_since(before: Event, now: Event) -> list[str]:
     """The cut, and the scores of the playoff."""
     found = []
     if before.stages and not now.stages:
@@ -75,15 +81,15 @@ def playoff_since(before: Event, now: Event) -> List[str]:
         for match in matches:
             if match.score and now.score_in(stage, str(match.place)) != match.score:
                 slot = slot_typed(stage, match.place, before.first_stage)
-                scores.append(f"  play {slot} {' '.join(shown_score(match.score).split('-'))}")
+                scores.append(f"  play {slot} {match.score.short.replace('-', ' ')}")
     if scores:
         found += ["Scores of the playoff that came since, where the same players meet:", *scores]
     return found
 
 
-def left_in(answer: str, missing: List[Missing]) -> Optional[List[Missing]]:
-    """What an answer leaves to be typed again: `y` all of it, `n` nothing, `but 1 3` all but the first and the
-    third; None if it is no answer.
+def left_in(answer: str, missing: list[Missing]) -> Optional[list[Missing]]:
+    """What an answer leaves to be typed again: `y` all of it, `n` nothing, `but 1 3` all but the first and
+    the third; None if it is no answer.
     """
     words = answer.lower().replace(",", " ").split()
     if words in (["y"], ["yes"], ["n"], ["no"]):

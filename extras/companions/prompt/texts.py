@@ -1,7 +1,7 @@
 """What stands fixed of all that the prompt says."""
 from __future__ import annotations
 
-from typing import Dict, Optional
+from typing import Optional
 
 from companions.event import Phase
 
@@ -28,15 +28,30 @@ COMMANDS = """\
   help all, quit     all commands
 """
 
+# a line of these, and what stands in its place if rounds are drawn
+PAIR = "  pair, pair 50      pairs the next round by a new key; starts the clock too\n"
+PAIR_BY_DICE = """\
+  pair               shuts and shows the lists by which the next round is drawn
+  pair 17 3 8 11     pairs it by what was thrown; 17 3 8 11 50min: a clock too
+  draw               what was drawn, and what the next round waits for
+"""
+
+FIRST_PAIR = "  pair, pair 50        then: pairs the first round; starts the clock too\n"
+FIRST_PAIR_BY_DICE = "  pair                 then: shuts the lists of the first round, for the throw\n"
+
 BEGINNING = """\
   init NAME ROUNDS CUT makes the event: its name, how many rounds, and how many
                        go on to the playoff, as: init Friday Night 6 8
   enrol Ana Lima       enrols a player
   import names.csv     enrols the players of a list; it shows them and asks back
+  entries on           players enter their names by phone; entries lists them,
+                       entries take enrols them
   rename 4 Ana Lima    gives player 4 the right name
   players, who an      lists the players; finds some by a part of the name
   print seats          a sheet for the players' meeting
+  print links          a strip for each player, with a page for the phone
   plan 6 8, remove 4   other rounds and another cut; takes a player out
+  draw on              rounds are drawn by dice that everybody sees
   start                begins the rounds, once everybody is there
   pair, pair 50        then: pairs the first round; starts the clock too
   copy, copy PATH      copies the event now; to a folder, as of a stick, too
@@ -65,12 +80,19 @@ MORE_COMMANDS = """\
 
   init NAME ROUNDS CUT makes the event, as: init Friday Night 3 0
   import names.csv     enrols the players of a list; it shows them and asks back
+  entries on           players enter their names by phone; entries lists them,
+                       entries take enrols them, entries out 3 strikes one, and
+                       entries off ends it
   rename 4 Ana Lima    gives player 4 the right name; after the start, for what
                        this prompt, sheets and board show
   plan, plan 6 8       rounds and cut; other ones, until the playoff
   start                begins the rounds
   take back drop 7     player 7 has not dropped, if no round was paired since
   remove 38            takes a player out who was never paired
+  draw on, draw off    each round is drawn by dice: pair shuts and shows the
+                       lists, and pair 17 3 8 11 pairs by what was thrown
+  draw                 what was drawn, and what the next round waits for
+  number 3 17 3 8 12   the number of round 3, which was mistyped; it asks back
   pair again           pairs by the key that FILE.keys has for it; see back
   copy                 copies the event now, and checks the copy
   copy /media/stick    the same to that folder too, and from now on each copy;
@@ -85,7 +107,11 @@ MORE_COMMANDS = """\
   export playoff p.csv the same into a new file
   final                the final ranking, once there is a champion
   print slips          writes FILE.sheets.html, and opens it where it can
+  print links 38       the strip of player 38, with the player's page
   phones               what phones handed in that has to be looked at
+  judge 7              a judge, whom a phone called, has been at table 7
+  note 7 +5 min        a note for the players of table 7, and for the board; all
+                       notes: note; away again: note 7 off
   title Friday Night   the heading of the sheets
   clock 50, clock off  starts the clock on the board for 50 minutes; stops it
   clock +3             gives three minutes back
@@ -118,13 +144,13 @@ The event's file is missing, and copies of it are there: back was stopped, or
 the file was moved. Go on from a copy: back"""
 
 # in place of the words of refusal 6, by the phase
-NOT_SWISS: Dict[Optional[Phase], str] = {
+NOT_SWISS: dict[Optional[Phase], str] = {
     Phase.ENROLLING: "The Swiss rounds have not begun. Once all players are enrolled: start",
     Phase.PLAYOFF: "The Swiss rounds are over, and the playoff has begun. See: open",
     Phase.FINISHED: "The event is over: the playoff has its champion. See: final",
 }
 # the same, where somebody was to drop
-NOBODY_DROPS: Dict[Optional[Phase], str] = {
+NOBODY_DROPS: dict[Optional[Phase], str] = {
     Phase.ENROLLING: "Nobody drops before the start. If somebody won't play: start, and then drop 12",
     Phase.PLAYOFF: "The playoff has begun, and nobody drops any more. If one leaves, the other one\n"
     "wins: play qf2 2 0",
@@ -172,10 +198,9 @@ REFUSALS = {
     23: "The event has taken 999,999 commands, and takes no more.",
     24: "The machine had no memory left. Close something, see: where, and type the line\n"
     "again if it is not there.",
-    25: "The file was not read or written. Most often another program has it open: end\n"
-    "it, see: where, and type the line again if it is not there. If `serve` holds the\n"
-    "file, end this with Ctrl-D and give its port: event-desk FILE --port 8080",
-    26: "A write failed before. End `serve` by Ctrl-C in its window, serve again, and\ntype the line again.",
+    25: "The file was not read or written. Most often another program has it open, such\n"
+    "as `serve`: end that, see: where, and type the line again if it is not there.",
+    26: "A write failed before, and the file has to be opened again. Type the line again.",
     27: "There is no event in the file. Look at the path, or make one:\ninit Friday Night 3 0",
     28: "The file has an event already. Take another FILE: end this with Ctrl-D.",
     29: "The file holds what no event can be. Go on from a copy: back",

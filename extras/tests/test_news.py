@@ -1,0 +1,98 @@
+"""News above the line that is being typed: what is told there is so, and nothing that came is left untold."""
+from types import SimpleNamespace
+
+import pytest
+from companions.event import Progress
+from companions.prompt.lines import Input
+from companions.prompt.news import News
+from companions.prompt.session import SECONDS_TO_READ, Session
+from companions.reports import STORED, Report, Reports
+from companions.score import Score
+
+
+class Typing:
+    """A terminal at which nothing is typed yet."""
+
+    def __init__(self):
+        self.said = []
+
+    def typed(self):
+        return ""
+
+    def say_above(self, prompt, text):
+        self.said.append((prompt, text))
+
+
+@pytest.fixture
+def file(tmp_path):
+    return str(tmp_path / "e.event")
+
+
+@pytest.fixture
+def session(file):
+    lines = Input(lambda _text: [], lambda _line: False)
+    lines.typing, lines.asking, lines.asked = Typing(), "desk> ", 1
+    return SimpleNamespace(
+        source=SimpleNamespace(program="none"),
+        file=file,
+        lines=lines,
+        reports=Reports(file),
+        event=SimpleNamespace(players={}),
+        known=Progress(0, (), False, 7),
+        differences=lambda now: [f"round {now.number}"],
+        show_progress=lambda *_: None,
+        moved_by_others=lambda: [],
+    )
+
+
+def enter(lines):
+    """The line is entered, and the next one is asked for."""
+    lines.asked += 1
+
+
+def test_what_another_window_did_is_told(session, monkeypatch):
+    news = News(session)
+    monkeypatch.setattr(news, "moved", lambda: Progress(1, (), False, 7))
+    news.tell()
+    assert session.lines.typing.said == [("r1> ", "round 1")]
+    assert session.known.number == 1
+
+
+def test_what_was_so_before_the_line_was_entered_is_not_told_above_the_next(session, monkeypatch):
+    """The line may have been `pair`, and what was read before it looks like what somebody else did."""
+    news = News(session)
+
+    def moved():
+        enter(session.lines)
+        session.known = Progress(2, (), False, 7)
+        return Progress(1, (), False, 7)
+
+    monkeypatch.setattr(news, "moved", moved)
+    news.tell()
+    assert session.lines.typing.said == []
+    assert session.known.number == 2
+
+
+def test_a_score_that_came_as_a_line_was_entered_is_told_before_the_next(session, file, monkeypatch):
+    news = News(session)
+    score = Score(2, 0, 0)
+    Reports(file).add(Report("2026-11-29 20:00:00", 1, 4, 1, 2, score, STORED, score, "10.0.0.7"))
+    monkeypatch.setattr(news, "moved", lambda: None)
+    monkeypatch.setattr(news, "names_for", lambda *_: enter(session.lines))
+    news.tell()
+    assert session.lines.typing.said == []
+    assert news.lines() == ["From phones: 1 score, table 4"]
+    assert news.lines() == []
+
+
+def test_news_count_as_read_after_some_seconds(file, session, monkeypatch):
+    at = Session(SimpleNamespace(turn=None), file, session.lines)
+    round_2, now = Progress(2, (), False, 7), 100.0
+    monkeypatch.setattr("time.monotonic", lambda: now)
+    at.show_progress(round_2, now)
+    assert not at.is_shown(round_2)
+    now += SECONDS_TO_READ
+    assert not at.is_shown(round_2)
+    now += 0.1
+    assert at.is_shown(round_2)
+    assert not at.is_shown(Progress(3, (), False, 7))
