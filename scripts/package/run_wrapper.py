@@ -2,9 +2,11 @@
 and through links, with and without a toolchain, with and without a program, with newer sources, at a terminal and away from one. Nothing is proved or
 built, and no file may be left anywhere.
 """
+import hashlib
 import os
 import pty
 import shutil
+import signal
 import subprocess
 import sys
 import tempfile
@@ -16,22 +18,30 @@ from scripts.clients.tally import check, end
 PROGRAM = "crates/event_reporter/out/event_reporter"
 STAND_IN = '#!/bin/sh\necho "ran $#: $*"\n[ "${1:-}" != refused ] || { echo "refused 14 AlreadyReported" >&2; exit 1; }\n[ "${1:-}" != read ] || cat\n'
 NEW = STAND_IN.replace("ran", "new")
+FIRST = STAND_IN.replace("ran", "first")
 BUILD = f"""import os, time
-open("built", "a").write("once\\n")
-while os.path.exists("goes-on"):
-    time.sleep(0.01)
-if os.path.exists("breaks"):
-    open("{PROGRAM}", "w").write("half")
-    os.chmod("{PROGRAM}", 0o755)
-if os.path.exists("fails") or os.path.exists("breaks"):
+def wait_for(name):
+    while os.path.exists(name):
+        time.sleep(0.01)
+def put(text):
+    open("{PROGRAM}.new", "w").write(text)
+    os.chmod("{PROGRAM}.new", 0o755)
+    os.replace("{PROGRAM}.new", "{PROGRAM}")
+open("built", "a").write(f"{{os.getpid()}}\\n")
+wait_for("goes-on")
+if os.path.exists("fails"):
     raise SystemExit("er_rank: not proved")
-open("{PROGRAM}", "w").write({NEW!r})
-os.chmod("{PROGRAM}", 0o755)
+if os.path.exists("compiles"):
+    put({FIRST!r})
+    wait_for("compiles")
+if os.path.exists("breaks"):
+    raise SystemExit("LLVM did not compile what was proved")
+put({NEW!r})
 """
 SOURCES = ("er_cli/src/lib.rt", "er_cli_tests/src/lib.rt", "event_reporter/src/main.rt")
 NEWER = "event_reporter: a source is newer than the program, which runs as it was built. To build it again: sh '{top}/scripts/build'\n"
 NO_TOOLCHAIN = "the toolchain (rt) is not on the PATH"
-TOOLS = "sh find head dirname readlink mkdir mv rm ln cp tail cat cut sha256sum python3".split()
+TOOLS = "sh find head dirname readlink mkdir mv rm tail cat cut sha256sum python3".split()
 SECONDS = 60
 # what a screen gets at the end, so that reading it ends
 LAST = b"that was all"
@@ -42,6 +52,15 @@ def write(path, text, mode=0o644):
     with open(path, "w", encoding="utf-8") as file:
         file.write(text)
     os.chmod(path, mode)
+
+
+def is_running(process):
+    """Whether the process is at work: one that has ended may wait for somebody to ask how."""
+    try:
+        with open(f"/proc/{process}/stat", encoding="utf-8") as it:
+            return it.read().rpartition(")")[2].split()[0] != "Z"
+    except (FileNotFoundError, ProcessLookupError):
+        return False
 
 
 class Checkout:
@@ -56,6 +75,7 @@ class Checkout:
             write(f"{self.top}/crates/{name}", "")
         for name in ("scripts/__init__.py", "scripts/gate/__init__.py"):
             write(f"{self.top}/{name}", "")
+        shutil.copy(f"{TOP}/scripts/gate/first.py", f"{self.top}/scripts/gate/first.py")
         write(f"{self.top}/scripts/gate/build.py", BUILD)
         write(f"{room}/toolchain/rt", "#!/bin/sh\n", 0o755)
         os.makedirs(f"{room}/bin")
@@ -101,9 +121,28 @@ class Checkout:
         for name in SOURCES:
             self.date(name, -60)
 
-    def builds(self):
+    def builders(self):
+        """The processes that have begun a build, the first one first."""
         path = f"{self.top}/built"
-        return len(open(path, encoding="utf-8").readlines()) if os.path.exists(path) else 0
+        return [int(it) for it in open(path, encoding="utf-8").read().split()] if os.path.exists(path) else []
+
+    def builds(self):
+        return len(self.builders())
+
+    def log(self):
+        """The words of the log that is beside the program, or None."""
+        path = f"{self.top}/{os.path.dirname(PROGRAM)}/build.log"
+        return open(path, encoding="utf-8").read().split() if os.path.exists(path) else None
+
+    def sum(self):
+        with open(f"{self.top}/{PROGRAM}", "rb") as it:
+            return hashlib.sha256(it.read()).hexdigest()
+
+    def waits_for(self, is_so):
+        until = time.monotonic() + SECONDS
+        while not is_so() and time.monotonic() < until:
+            time.sleep(0.01)
+        return bool(is_so())
 
     def names(self):
         return sorted(
@@ -182,33 +221,55 @@ def builds_before_the_first_run(checkout):
 
 
 def keeps_the_old_program(checkout):
-    """While a new one is built, when that fails, and when it is stopped, also in the middle of writing the program."""
+    """While a new one is built, when that fails, and when it is stopped."""
     for how in ("fails", "breaks"):
         write(f"{checkout.top}/{how}", "")
         check(f"a build that {how}", (checkout.build(), checkout.run("x")), (3, (0, "ran 1: x\n", "")))
         os.unlink(f"{checkout.top}/{how}")
-    for signal in ("terminate", "kill"):
+    for how in ("terminate", "kill"):
+        write(f"{checkout.top}/{PROGRAM}", STAND_IN, 0o755)
         write(f"{checkout.top}/goes-on", "")
         count = checkout.builds()
         with subprocess.Popen(["sh", f"{checkout.top}/scripts/build"], env=checkout.path(True), stderr=subprocess.DEVNULL) as builder:
-            until = time.monotonic() + SECONDS
-            while checkout.builds() == count and time.monotonic() < until:
-                time.sleep(0.01)
+            checkout.waits_for(lambda: checkout.builds() > count)
             check("while it is built", checkout.run("x"), (0, "ran 1: x\n", ""))
-            getattr(builder, signal)()
+            getattr(builder, how)()
             os.unlink(f"{checkout.top}/goes-on")
-        # where only the script was ended, its build goes on to its end
-        time.sleep(0.2)
-        check(f"after {signal}", checkout.run("x")[0], 0)
-    os.unlink(f"{checkout.top}/{PROGRAM}")
-    check("the old one, while the new one is not there", checkout.run("x"), (0, "ran 1: x\n", ""))
+        # if only the script was ended, its build goes on to its end
+        check(f"after {how}", checkout.waits_for(lambda: checkout.run("x") == (0, "new 1: x\n", "")), True)
     check("built after all that", (checkout.build(), checkout.run("x")), (0, (0, "new 1: x\n", "")))
     left = [name for name in checkout.names() if "event_reporter/out/" in name]
     folder = f"a checkout/{os.path.dirname(PROGRAM)}"
     check("what is left", left, [f"{folder}/build.log", f"{folder}/event_reporter"])
-    log = open(f"{checkout.top}/crates/event_reporter/out/build.log", encoding="utf-8").read().split()
-    summed = subprocess.run(["sha256sum", f"{checkout.top}/{PROGRAM}"], capture_output=True, text=True, check=True, timeout=SECONDS).stdout.split()
-    check("the log names the program", log, ["program", summed[0]])
+    check("the log names the program", checkout.log(), ["program", checkout.sum()])
+
+
+def runs_the_first_program(checkout):
+    """The first compiler's program runs as soon as it is there, and the last one's takes its place later, also when what ran first was stopped."""
+    write(f"{checkout.top}/compiles", "")
+    status, printed, said = checkout.run("x", has_toolchain=True)
+    check("the first program", (status, printed, "10 to 50 minutes" in said), (0, "first 1: x\n", True))
+    check("and again", checkout.run("x"), (0, "first 1: x\n", ""))
+    check("it has no log", checkout.log(), None)
+    os.unlink(f"{checkout.top}/compiles")
+    check("the last program", (checkout.waits_for(lambda: checkout.log()), checkout.run("x")), (True, (0, "new 1: x\n", "")))
+    check("its log", (checkout.log(), checkout.builds()), (["program", checkout.sum()], 1))
+
+
+def stops_with_what_started_it(checkout):
+    """A build that was begun by the first run ends with it, if that is stopped before there is a program."""
+    write(f"{checkout.top}/goes-on", "")
+    for number in (signal.SIGINT, signal.SIGTERM):
+        count = checkout.builds()
+        line = [f"{checkout.top}/event_reporter", "x"]
+        with subprocess.Popen(line, env=checkout.path(True), stderr=subprocess.DEVNULL, start_new_session=True) as first:
+            check("begun", checkout.waits_for(lambda: checkout.builds() > count), True)
+            os.killpg(first.pid, number)
+            check(f"ended by {number.name}", first.wait(SECONDS) != 0, True)
+        # the build gets its signal by way of others, and may be the last to end
+        check(f"its build, by {number.name}", checkout.waits_for(lambda: not is_running(checkout.builders()[-1])), True)
+    os.unlink(f"{checkout.top}/goes-on")
+    check("nothing was built", (os.path.exists(f"{checkout.top}/{PROGRAM}"), checkout.log()), (False, None))
 
 
 def says_that_it_is_alone(checkout):
@@ -224,5 +285,7 @@ in_checkout(builds_nothing_by_itself)
 in_checkout(follows_links)
 in_checkout(builds_before_the_first_run, is_built=False)
 in_checkout(keeps_the_old_program)
+in_checkout(runs_the_first_program, is_built=False)
+in_checkout(stops_with_what_started_it, is_built=False)
 in_checkout(says_that_it_is_alone)
 end("./event_reporter")
