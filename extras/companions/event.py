@@ -167,9 +167,9 @@ def found_in(lists: Rounds, number: int, place: str) -> Optional[Match]:
     return next((match for match in lists[number - 1] if match.place == int(place)), None)
 
 
-def read_or_none(source: Source) -> Optional[Event]:
+def read_or_none(source: Source, file: str = "") -> Optional[Event]:
     """The event with all that is asked of it later, or None where it can't be read."""
-    event = Event(source)
+    event = Event(source, file)
     try:
         event.read()
     except FAULTS:

@@ -41,13 +41,32 @@ def test_nothing_came():
 def test_results_drops_and_players_come_as_lines_to_type():
     before = played(results=((1, (2, 1, 0)), (2, (0, 2, 0))), dropped=(3,), late=("Late Lou",))
     lines = came_since(before, played(results=((1, (2, 0, 0)),)), OfRounds({}), NOT_DRAWN)
-    assert lines[1:] == ["  fix 1 1 2 1 0", "  2 0 2 0", "  drop 3", "  enrol Late Lou"]
+    assert lines[1:] == [
+        "  fix 1 1 2 1 0  P4 (4) 2-1-0 P2 (2)",
+        "  2 0 2 0       P1 (1) 0-2-0 P3 (3)",
+        "  drop 3        P3",
+        "  enrol Late Lou",
+    ]
 
 
 def test_a_round_that_was_paired_since_comes_with_its_key():
     both = ((1, (2, 0, 0)), (2, (2, 0, 0)))
     lines = came_since(played(results=both, rounds=2), played(results=both), OfRounds({2: "ab" * 32}), NOT_DRAWN)
     assert lines == ["Round 2 was paired since. Its key, for: pair again\n  " + "ab" * 32]
+
+
+def test_scores_of_a_round_that_was_paired_since_have_a_heading_and_names():
+    before = played(results=((1, (2, 1, 0)), (2, (0, 0, 3))))
+    event = PlainEvent(3, 0)
+    for name in ("P1", "P2", "P3", "P4"):
+        event.enrol(name)
+    event.start()
+    lines = came_since(before, Event(FromModel(event)), OfRounds({1: "ab" * 32}), NOT_DRAWN)
+    assert lines[1:] == [
+        "Its scores, to type once it is paired so again:",
+        "  1 2 1 0       P4 (4) 2-1-0 P2 (2)",
+        "  2 0 0 3       P1 (1) 0-0-3 P3 (3)",
+    ]
 
 
 def cut_of_four(scores):
@@ -68,18 +87,18 @@ def cut_of_four(scores):
 def test_the_cut_and_scores_of_the_playoff_come_as_lines_to_type():
     lines = came_since(cut_of_four([(1, 1, (2, 1, 0))]), cut_of_four(None), OfRounds({}), NOT_DRAWN)
     assert [line for line in lines if "cut" in line or "play " in line] == [
-        "The playoff was begun since. To begin it again: cut", "  play final 2 1"
+        "The playoff was begun since. To begin it again: cut", "  play final 2 1  P1 (1) 2-1-0 P4 (4)"
     ]
     lines = came_since(cut_of_four([(1, 1, (2, 1, 0))]), cut_of_four([]), OfRounds({}), NOT_DRAWN)
-    assert [line for line in lines if line.startswith("  ")] == ["  play final 2 1"]
+    assert [line for line in lines if line.startswith("  ")] == ["  play final 2 1  P1 (1) 2-1-0 P4 (4)"]
 
 
 def test_what_can_be_typed_again_is_sent_so():
     before = played(results=((1, (2, 1, 0)), (2, (0, 2, 0))), dropped=(3,), late=("-x, Lou",))
     assert missing_since(before, played(results=((1, (2, 0, 0)),))) == [
-        Missing("fix 1 1 2 1 0", ("correct", "1", "1", "2", "1", "0")),
-        Missing("2 0 2 0", ("result", "1", "2", "0", "2", "0")),
-        Missing("drop 3", ("drop", "3")),
+        Missing("fix 1 1 2 1 0", ("correct", "1", "1", "2", "1", "0"), "P4 (4) 2-1-0 P2 (2)"),
+        Missing("2 0 2 0", ("result", "1", "2", "0", "2", "0"), "P1 (1) 0-2-0 P3 (3)"),
+        Missing("drop 3", ("drop", "3"), "P3"),
         Missing("enrol -x, Lou", ("enrol", "-x, Lou")),
     ]
 

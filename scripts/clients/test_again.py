@@ -201,6 +201,22 @@ def test_back_leaves_out_what_is_named(prompt, played):
     assert (event.names[-1], event.stored[0][1][2], len(event.stored)) == ("Ed", (2, 1, 0), 1)
 
 
+def test_a_round_that_is_paired_so_again_offers_its_scores(prompt, played):
+    """Under a heading, with names."""
+    before = read(played).stored[1]
+    shown = [match_shown(read(played), match, match[2]) for match in before]
+    number = next(line.split()[0] for line in prompt.said(played, "back").split("\n") if "before the pairing of round 2" in line)
+    terminal = prompt.terminal(played)
+    terminal.send(f"back {number}")
+    # a correction of round 1 is offered first
+    text = terminal.send("y") + terminal.send("n")
+    check_said("they are shown", text, "Its scores, to type once it is paired so again:", *shown, "Once a round is paired so again, its scores are offered.")
+    check_said("they are offered", terminal.send("pair again"), "Scores that round 2 had before:", *shown, "Type it again, or but 1 3")
+    check_said("they are typed", terminal.send("but 3"), "round 2, 1 table open: 3", "r2> ")
+    assert [match[2] for match in read(played).stored[1]] == [before[0][2], before[1][2], None, before[3][2]]
+    assert terminal.end()[0] == 0
+
+
 # ---- what is taken back
 
 

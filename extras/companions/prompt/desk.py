@@ -127,6 +127,7 @@ class Desk(cmd.Cmd):
     def do_pair(self, rest: str) -> None:
         pairs = self.drawing.pair if self.session.draws.rule else self.rounds.pair
         pairs(rest)
+        self.evening.offer_scores()
 
     def do_draw(self, rest: str) -> None:
         self.drawing.draw(rest)

@@ -21,7 +21,14 @@ from companions.plan import plan_of, usual_rounds
 from companions.program import FAULTS, Declined, Refused
 from companions.prompt.lines import minutes_of, numbers_in, unbroken
 from companions.prompt.session import Command, Session
-from companions.prompt.since import Missing, came_since, left_in, missing_since, rounds_since
+from companions.prompt.since import (
+    Missing,
+    came_since,
+    left_in,
+    missing_since,
+    results_since,
+    rounds_since,
+)
 from companions.prompt.texts import UNDO
 from companions.rosters import written_list
 from companions.title import keep_title
@@ -30,6 +37,8 @@ from companions.title import keep_title
 class Evening:
     def __init__(self, session: Session):
         self.session = session
+        # the event that `back` put away, whose scores are offered once its rounds are paired so again
+        self.put_away: Optional[Event] = None
 
     def init(self, rest: str) -> None:
         session = self.session
@@ -232,7 +241,7 @@ class Evening:
             raise Declined("The event stays as it is.")
         with unbroken(), session.source.turn.taken():
             # whatever came while the question stood came since the copy too
-            before = read_or_none(session.source)
+            before = self.put_away = read_or_none(session.source, session.file)
             away = session.copies.put_in_place(copy)
             has_draws = session.draws.take_from(session.copies.draws)
         session.has_moved = True
@@ -250,8 +259,16 @@ class Evening:
         missing = missing_since(before, session.event)
         if not missing or not session.lines.is_terminal:
             session.say(*came_since(before, session.event, session.keys, session.draws))
-            return
-        session.say("What came since:", *(f"{at:4}  {it.line}" for at, it in enumerate(missing, 1)))
+        else:
+            self.offer(missing, "What came since:")
+            session.say(*rounds_since(before, session.event, session.keys, session.draws))
+        if session.lines.is_terminal and len(before.rounds) > len(session.event.rounds):
+            session.say("Once a round is paired so again, its scores are offered.")
+
+    def offer(self, missing: list[Missing], heading: str) -> None:
+        """Types again what the answer leaves."""
+        session = self.session
+        session.say(heading, *(f"{at:4}  {it.told}" for at, it in enumerate(missing, 1)))
         question = "Type it again, or but 1 3 to leave some out? (y or n)"
         answer = session.lines.reply(question, lambda text: left_in(text, missing) is not None)
         with unbroken(), session.source.turn.taken():
@@ -259,7 +276,17 @@ class Evening:
                 self.send_again(it)
         session.look_again()
         session.say_where()
-        session.say(*rounds_since(before, session.event, session.keys, session.draws))
+
+    def offer_scores(self) -> None:
+        """After a pairing: what the round had before `back`, where the same players sit."""
+        session, before = self.session, self.put_away
+        if not before or not session.lines.is_terminal:
+            return
+        session.look_again()
+        number = len(session.event.rounds)
+        missing = list(results_since(before, session.event, number)) if number else []
+        if missing:
+            self.offer(missing, f"Scores that round {number} had before:")
 
     def send_again(self, missing: Missing) -> None:
         """What is refused is said, and the others go on."""

@@ -11,31 +11,42 @@ from companions.names import visible
 from companions.reports import words_to_store
 from companions.stages import slot_typed
 
+# a line to type takes so many columns, before whose it is
+WIDTH_OF_A_LINE = 12
+
 
 @dataclass(frozen=True)
 class Missing:
-    """A command that has to be given again: as it is typed, and as it is sent."""
+    """A command that has to be given again: as it is typed, as it is sent, and who is meant."""
 
     line: str
     words: tuple[str, ...]
+    shown: str = ""
+
+    @property
+    def told(self) -> str:
+        """The line, with those who are meant beside it."""
+        return f"{self.line:{WIDTH_OF_A_LINE}}  {self.shown}" if self.shown else self.line
 
 
 def missing_since(before: Event, now: Event) -> list[Missing]:
     """What can be typed again as it is, in an order in which it can: results and corrections of the rounds
     that are there, latecomers, and drops.
     """
-    return [*results_since(before, now), *players_since(before, now)]
+    rounds = range(1, len(now.rounds) + 1)
+    results = [missing for number in rounds for missing in results_since(before, now, number)]
+    return [*results, *players_since(before, now)]
 
 
-def results_since(before: Event, now: Event) -> Iterator[Missing]:
-    for number, matches in enumerate(now.rounds, 1):
-        for match in matches:
-            old = before.match(number, str(match.place))
-            is_same_pair = old and (old.first, old.second) == (match.first, match.second)
-            if old and is_same_pair and old.score and old.score != match.score:
-                word = "correct" if match.score else "result"
-                words = (word, str(number), str(match.place), *old.score.words)
-                yield Missing(words_to_store(number, match, old.score), words)
+def results_since(before: Event, now: Event, number: int) -> Iterator[Missing]:
+    """The scores of a round, where the same players sit."""
+    for match in now.rounds[number - 1]:
+        old = before.match(number, str(match.place))
+        is_same_pair = old and (old.first, old.second) == (match.first, match.second)
+        if old and is_same_pair and old.score and old.score != match.score:
+            word = "correct" if match.score else "result"
+            words = (word, str(number), str(match.place), *old.score.words)
+            yield Missing(words_to_store(number, match, old.score), words, before.shown(old))
 
 
 def players_since(before: Event, now: Event) -> Iterator[Missing]:
@@ -43,12 +54,12 @@ def players_since(before: Event, now: Event) -> Iterator[Missing]:
         if number not in now.enrolled:
             yield Missing(f"enrol {visible(player.name)}", ("enrol", player.name))
         if player.has_dropped and not (number in now.enrolled and now.enrolled[number].has_dropped):
-            yield Missing(f"drop {number}", ("drop", str(number)))
+            yield Missing(f"drop {number}", ("drop", str(number)), visible(player.name))
 
 
 def came_since(before: Event, now: Event, keys: Keys, draws: Draws) -> list[str]:
     """All of it, as lines to type."""
-    lines = [f"  {missing.line}" for missing in missing_since(before, now)]
+    lines = [f"  {missing.told}" for missing in missing_since(before, now)]
     found = ["What came since, to type again where it still holds:", *lines] if lines else []
     return found + rounds_since(before, now, keys, draws)
 
@@ -58,8 +69,11 @@ def rounds_since(before: Event, now: Event, keys: Keys, draws: Draws) -> list[st
     found = []
     for number in range(len(now.rounds) + 1, len(before.rounds) + 1):
         found.append(f"Round {number} was paired since. {way_to_pair(number, keys, draws)}")
-        matches = [match for match in before.rounds[number - 1] if not match.is_bye]
-        found += [f"  {match.place} {match.score.typed}" for match in matches if match.score]
+        scored = [(match, match.score) for match in before.rounds[number - 1] if not match.is_bye]
+        scores = [Missing(f"{it.place} {score.typed}", (), before.shown(it)) for it, score in scored if score]
+        if scores:
+            found.append("Its scores, to type once it is paired so again:")
+        found += [f"  {it.told}" for it in scores]
     return found + playoff_since(before, now)
 
 
@@ -81,7 +95,8 @@ def playoff_since(before: Event, now: Event) -> list[str]:
         for match in matches:
             if match.score and now.score_in(stage, str(match.place)) != match.score:
                 slot = slot_typed(stage, match.place, before.first_stage)
-                scores.append(f"  play {slot} {match.score.short.replace('-', ' ')}")
+                line = f"play {slot} {match.score.short.replace('-', ' ')}"
+                scores.append(f"  {Missing(line, (), before.shown(match)).told}")
     if scores:
         found += ["Scores of the playoff that came since, where the same players meet:", *scores]
     return found
