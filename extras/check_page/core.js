@@ -441,7 +441,7 @@ function checkText(text, saw) {
     said.push([ASK, `Was ${text.instead} mistyped, and never thrown for this round?`]);
   }
   if (text.by !== "-") said.push([TOLD, `These players threw, by their numbers: ${text.by}.`]);
-  if (text.drawing > 1) said.push([TOLD, `The round was drawn ${text.drawing} times.`]);
+  if (text.drawing > 1) said.push([TOLD, `The lists were shut ${text.drawing} times.`]);
   return said;
 }
 

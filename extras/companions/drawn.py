@@ -73,14 +73,14 @@ def drawn_line(event: Event, number: int) -> str:
     if not text:
         return CHOSEN
     instead = "" if text.instead == NONE else f", in place of {text.instead}"
-    times = f", drawn {text.drawing} times" if text.drawing > 1 else ""
+    times = f", lists shut {text.drawing} times" if text.drawing > 1 else ""
     key = f"Number {text.number}" if text.is_drawn else CHOSEN
     return f"{key}{instead}{times}, text {shown_digits(text.sum)}"
 
 
 def lines_below(text: DrawText, event: Event) -> tuple[str, ...]:
     """What stands besides of a round that was drawn."""
-    found = [f"Drawn {text.drawing} times"] if text.drawing > 1 else []
+    found = [f"Lists shut {text.drawing} times"] if text.drawing > 1 else []
     if text.instead != NONE:
         found.append(f"In place of {text.instead}")
     if text.by != NONE:

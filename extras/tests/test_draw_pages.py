@@ -89,8 +89,8 @@ def test_a_round_that_was_drawn_again(plain, file):
     first = keep(file, plain, 1, 1, BEFORE_THE_FIRST)
     draw_round(file, plain, 1, 2, first, by="2 5", instead="1 1 1 1")
     text = page(plain, file, ["draw", "tables"])
-    by, times = "Thrown by P2 (2), P5 (5)", f"Number {NUMBER}, in place of 1 1 1 1, drawn 2 times, text "
-    due = "Drawn 2 times", "In place of 1 1 1 1", by, times
+    by, times = "Thrown by P2 (2), P5 (5)", f"Number {NUMBER}, in place of 1 1 1 1, lists shut 2 times, text "
+    due = "Lists shut 2 times", "In place of 1 1 1 1", by, times
     assert [words for words in due if words not in text] == []
 
 

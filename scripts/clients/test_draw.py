@@ -105,7 +105,7 @@ def test_drawn_again_it_is_the_same(prompt, begin):
     assert "Its key, for" not in said
     check_said("other dice", prompt.said(file, "pair 5 5 5 5"), "The number of round 1 is 3 8 11 17, for good.", "number 1 5 5 5 5")
     assert read(file).stored == []
-    check_said("nothing is typed", prompt.said(file, "pair"), "Round 1 has its number: 3 8 11 17", "drawn 2 times, text 214a ae08")
+    check_said("nothing is typed", prompt.said(file, "pair"), "Round 1 has its number: 3 8 11 17", "lists shut 2 times, text 214a ae08")
     assert (sum_of(file, 1), sum_of(file, 1, 2)) == (FIRST, SECOND)
     assert numbers_of(file) == ["round 1 3 8 11 17"]
     # the very same one may be typed
@@ -126,7 +126,7 @@ def test_somebody_comes_and_drops_after_the_shutting(prompt, begin):
     file = begin()
     prompt.said(file, "pair")
     said = prompt.said(file, "enrol Al", "drop 8", "y", "pair 17 3 8 11")
-    check_said("it is told", unfilled(said), "for good", "Round 1, drawing 2: since the lists were shut before, 8 came", "Round 1: number 3 8 11 17, drawn 2 times")
+    check_said("it is told", unfilled(said), "for good", "Round 1, drawing 2: since the lists were shut before, 8 came", "Round 1: number 3 8 11 17, lists shut 2 times")
     assert lines_of(text_of(file, 1, 2))["mark"] == "b6400c6d7f5e8dad3cc4715758add21a00e9379bf4db631b88af8e3645e9d406"
     assert lines_of(text_of(file, 1, 2))["key"] == key_of(1, NUMBER)
     assert seats(file, 1) == [[2, 3], [5, 1], [4, 7], [6, 0]]
@@ -184,7 +184,7 @@ def test_a_mistyped_number_is_shown_for_ever(prompt, begin):
     said = unfilled(prompt.said(file, "number 1 17 3 8 12", "y"))
     check_said("yes", said, "The number of round 1 is 3 8 12 17.", "Round 1 stays as it was paired.", "back 1, and then pair")
     assert seats(file, 1) == before
-    check_said("both are shown", prompt.said(file, "back 1", "y", "pair"), "number 3 8 12 17, drawn 2 times", "in place of 3 8 11 17")
+    check_said("both are shown", prompt.said(file, "back 1", "y", "pair"), "number 3 8 12 17, lists shut 2 times", "in place of 3 8 11 17")
     assert [lines_of(text_of(file, 1, 2))[it] for it in ("number", "instead", "key")] == ["3 8 12 17", "3 8 11 17", key_of(1, "3 8 12 17")]
     prompt.said(file, "number 1 1 1 1 1", "y", "back 1", "y", "pair")
     assert lines_of(text_of(file, 1, 3))["instead"] == "3 8 11 17; 3 8 12 17"
@@ -194,7 +194,7 @@ def test_a_key_that_the_scorekeeper_chooses_is_told_for_ever(prompt, begin):
     file = begin(FOUR)
     prompt.said(file, "pair", "pair 17 3 8 11", "back 1", "y")
     said = prompt.said(file, "pair new")
-    check_said("pair new", said, "Round 1: KEY CHOSEN BY THE SCOREKEEPER, drawn 2 times", "in place of 3 8 11 17")
+    check_said("pair new", said, "Round 1: KEY CHOSEN BY THE SCOREKEEPER, lists shut 2 times", "in place of 3 8 11 17")
     head = lines_of(text_of(file, 1, 2))
     assert (head["number"], head["instead"], bytes.fromhex(head["key"])) == ("-", NUMBER, keys_of(file)[-1][1])
     prompt.said(file, "back 1", "y", f"pair {'AB' * 32}")
@@ -293,7 +293,7 @@ def test_another_machine_goes_on_with_the_number(prompt, begin, room):
     shutil.copytree(f"{room}/stick/e.event.copies/{name}", there)
     assert sorted(os.listdir(f"{there}/e.event.draws")) == ["numbers", "round-1-1.shut", "round-1-1.txt", "rule"]
     said = prompt.said(f"{there}/e.event", "pair 5 5 5 5", "pair")
-    check_said("the number is kept", said, "Round 1 has its number, 3 8 11 17", "is 3 8 11 17, for good", "drawn 2 times")
+    check_said("the number is kept", said, "Round 1 has its number, 3 8 11 17", "is 3 8 11 17, for good", "lists shut 2 times")
     assert seats(f"{there}/e.event", 1) == before
 
 
@@ -307,7 +307,7 @@ def test_another_machine_that_has_only_the_copies_goes_on_with_the_number(prompt
     os.mkdir(f"{room}/laptop")
     shutil.copytree(f"{file}.copies", f"{there}.copies")
     said = prompt.said(there, "back 2", "y", "pair 5 5 5 5", "pair")
-    check_said("the number is kept", unfilled(said), f"What was drawn is in {there}.draws again, from the copies.", "The number of round 2 is 2 2 2 2, for good", "Round 2: number 2 2 2 2, drawn 2 times")
+    check_said("the number is kept", unfilled(said), f"What was drawn is in {there}.draws again, from the copies.", "The number of round 2 is 2 2 2 2, for good", "Round 2: number 2 2 2 2, lists shut 2 times")
     assert seats(there, 2) == tables
     after = {name: open(f"{there}.draws/{name}", "rb").read() for name in os.listdir(f"{there}.draws")}
     assert {name: after.get(name) for name in before} == before

@@ -256,7 +256,7 @@ def read_drawings(texts, shut):
             yield text, WRONG, f"there is another text of {text.named}"
         if text.drawing == 1:
             continue
-        yield text, TOLD, f"the round was drawn {text.drawing} times"
+        yield text, TOLD, f"the lists were shut {text.drawing} times"
         before = lists.get((text.round, text.drawing - 1))
         if before is None:
             yield text, TOLD, f"drawing {text.drawing - 1} is not here, so what differs from it can't be told"

@@ -426,7 +426,7 @@ class Drawing:
 def lines_of(text: DrawText) -> list[str]:
     """A round as it was drawn, as people are told."""
     how = f"number {text.number}" if text.is_drawn else "KEY CHOSEN BY THE SCOREKEEPER"
-    drawn = f", drawn {text.drawing} times" if text.drawing > 1 else ""
+    drawn = f", lists shut {text.drawing} times" if text.drawing > 1 else ""
     lines = [f"Round {text.round}: {how}{drawn}, text {shown_digits(text.sum)}"]
     if text.instead != NONE:
         lines.append(f"  in place of {text.instead}")
