@@ -9,6 +9,7 @@ import pytest
 
 from scripts import TOP
 from scripts.clients.drawn_evenings import begun, can_be_paired, changes, drawn_evening, text_bytes
+from scripts.clients.prompt import unfilled
 from scripts.clients.random_evenings import laid, report_round
 from scripts.clients.waiting import PATIENCE
 from scripts.models import event_check
@@ -248,10 +249,12 @@ def test_texts_as_files(checked, files, evening):
     status, said = checked(*paths)
     assert (status, "WRONG" in said) == (0, False)
     assert "round 2, drawing 2" in said and "is that so?: 1 8 11 17 was thrown. Whoever was there knows" in said
+    assert said.endswith("\nChecked: 5 texts of rounds. Nothing is wrong.\n5 questions to those who were there: is that so?\n")
     status, said = checked(paths[1], paths[0])
     assert (status, "round 2, drawing 1 (" in said) == (0, True)
     status, said = checked(paths[0], paths[3])
     assert (status, "WRONG: it does not follow on the text before it, round 1, drawing 1" in said) == (1, True)
+    assert "\nChecked: 2 texts of rounds. WRONG: round 3, drawing 1. See there.\n" in said
 
 
 def test_what_is_no_text_is_never_silence(checked, room):
@@ -308,7 +311,11 @@ def test_an_event_that_was_not_drawn(program, checked, room, dice):
     with open(f"{file}.keys", "w") as it:
         it.write(f"round 1 {'0' * 64}\n")
     status, said = checked(file)
-    assert (status, said) == (0, "round 1 in the event\n  told: KEY CHOSEN BY THE SCOREKEEPER: it has no text\n  right: as the rules pair it by its key\n")
+    assert (status, said) == (0, "round 1 in the event\n  told: KEY CHOSEN BY THE SCOREKEEPER: it has no text\n  right: as the rules pair it by its key\nChecked: 1 round in the event. Nothing is wrong.\n")
+    with open(f"{file}.keys", "w") as it:
+        it.write("")
+    status, said = checked(file)
+    assert (status, unfilled(said).endswith("Checked: 1 round in the event. Not shown to be right: round 1 in the event. See there.")) == (0, True)
 
 
 def test_standings_and_the_working_behind_them(program, checked, room, dice):
@@ -319,7 +326,8 @@ def test_standings_and_the_working_behind_them(program, checked, room, dice):
         with open(f"{room}/{kind}", "wb") as it:
             it.write(data)
     right = "right: they are those of the rules, by the results as they are now"
-    assert right in checked(file, f"{room}/standings")[1]
+    said = checked(file, f"{room}/standings")[1]
+    assert right in said and "\nChecked: 3 rounds in the event, 1 list of standings." in said
     status, said = checked(f"{room}/players", f"{room}/results", f"{room}/standings", "--who", "3")
     assert (status, right in said) == (0, True)
     row = next(line.split() for line in event.standings()[1:] if line.split()[1] == "3")
@@ -329,6 +337,7 @@ def test_standings_and_the_working_behind_them(program, checked, room, dice):
         it.write(lists["standings"].replace(b"33.00", b"33.33", 1))
     status, said = checked(f"{room}/players", f"{room}/results", f"{room}/standings")
     assert (status, "WRONG: they are not those of the rules" in said) == (1, True)
+    assert unfilled(said).endswith(f"WRONG: standings ({room}/standings). See there.")
     for words in ((f"{room}/standings",), (f"{room}/players",), (file, "--who", "99"), (f"{room}/players", f"{room}/results", "--who", "0x1")):
         if words[-1] == "0x1":
             continue

@@ -23,7 +23,7 @@ def test_check(prompt, program, started):
     text = prompt.said(file, "pair", *lines, "drop 9", "y", "enrol Late", "pair", *lines, "pair", "check 1", "check 2", "check", "check 4", "check x")
     check_said("check", text, *(f"Round {it} is what its key gives" for it in (1, 2, 3)), "Round 4 is not paired", "such as check 3")
     is_so = "as the rules pair it by its key"
-    assert checked(program, file) == (0, "".join(f"round {it}: {is_so}\n" for it in (1, 2, 3))), "scripts/check"
+    assert checked(program, file) == (0, "".join(f"round {it}: {is_so}\n" for it in (1, 2, 3)) + "Checked: 3 rounds. Nothing is wrong.\n"), "scripts/check"
     prompt.said(file, "fix 1 1 0 2", "y")
     status, text = checked(program, file)
     check_said("scripts/check after a correction", text, f"round 1: {is_so}", "was corrected since, this can't be told")

@@ -241,7 +241,7 @@ def test_a_round_that_was_paired_again_is_checked_by_its_own_key(prompt, program
         ran = subprocess.run(["bash", f"{TOP}/scripts/check", *paths], capture_output=True, timeout=PATIENCE)
         return ran.returncode, ran.stdout.decode()
 
-    good = 0, "round 1: as the rules pair it by its key\nround 2: as the rules pair it by its key\n"
+    good = 0, "round 1: as the rules pair it by its key\nround 2: as the rules pair it by its key\nChecked: 2 rounds. Nothing is wrong.\n"
     prompt.said(begun, "2 0 2", "pair")
     prompt.said(begun, "back 2", "y", "pair")
     check_said("the newer pairing", prompt.said(begun, "check 2"), "Round 2 is what its key gives")

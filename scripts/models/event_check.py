@@ -10,11 +10,12 @@ import shutil
 import sqlite3
 import sys
 import tempfile
+import textwrap
 
 from scripts.models import plain_draw
 from scripts.models.plain_check import AS_THE_RULES, keys_of, results_of, verdicts
 from scripts.models.plain_csv import Fault, names_of, records, results_rows
-from scripts.models.plain_draw import RIGHT, TOLD, WRONG, NoText, Text, event_of
+from scripts.models.plain_draw import ASK, RIGHT, TOLD, WRONG, NoText, Text, event_of
 from scripts.models.plain_event import printed
 from scripts.models.plain_file import Damaged, NoEvent
 from scripts.models.plain_file import read as read_tables
@@ -147,24 +148,47 @@ def read_kept(text, numbers, rule):
 
 
 class Report:
-    """What is said, and whether something was wrong."""
+    """What is said, and what it comes to: how much was checked, what was wrong, what can't be told, and how much is asked of those who were there."""
 
     def __init__(self):
-        self.status = 0
+        self.status, self.asked, self.at = 0, 0, ""
+        self.checked, self.wrong_at, self.unsure_at = {}, [], []
 
-    def head(self, words):
+    def count(self, one, many, number=1):
+        self.checked[one, many] = self.checked.get((one, many), 0) + number
+
+    def head(self, words, at=None):
+        """What the next lines are about, and the short name that the end has for it."""
+        self.at = at or words
         print(words)
 
     def say(self, kind, words):
         if kind == WRONG:
             self.status = 1
+            self.note(self.wrong_at)
+        self.asked += kind == ASK
         print(f"  {kind}: {words}")
+
+    def note(self, places):
+        if self.at not in places:
+            places.append(self.at)
+
+    def end(self):
+        """The last lines."""
+        what = ", ".join(f"{number} {one if number == 1 else many}" for (one, many), number in self.checked.items())
+        found = [f"WRONG: {'; '.join(self.wrong_at)}. See there."] * bool(self.wrong_at)
+        found += [f"Not shown to be right: {'; '.join(self.unsure_at)}. See there."] * bool(self.unsure_at)
+        told = " ".join([f"Checked: {what or 'nothing'}.", *(found or ["Nothing is wrong."])])
+        print(textwrap.fill(told, 79, break_long_words=False, break_on_hyphens=False))
+        if self.asked:
+            print(f"{self.asked} question{'' if self.asked == 1 else 's'} to those who were there: is that so?")
 
     def texts(self, texts, is_whole=False, shut=None, kept=None, rule=""):
         """Texts with the names of their files."""
         names = {text.sum: name for name, text in texts}
         for text, said in plain_draw.report([text for _, text in texts], is_whole, shut):
-            self.head(f"{text.named} ({names[text.sum]}), text {text.sum[:16]}")
+            self.count("text of a round", "texts of rounds")
+            self.head(f"{text.named} ({names[text.sum]}), text {text.sum[:16]}", text.named)
             for kind, words in (*said, *(read_kept(text, kept, rule) if kept is not None else ())):
                 self.say(kind, words)
 
@@ -186,6 +210,7 @@ def check_event(report, file, name=None):
     keys = keys_of(read(f"{file}.keys").decode("utf-8", "replace")) if os.path.exists(f"{file}.keys") else {}
     results = [(int(row[0]), int(row[1]), int(row[2]), int(row[3]), tuple(map(int, row[4:])) if row[4] else None) for row in results_rows(event)[1:]]
     lines = verdicts(results, keys)
+    report.count("round in the event", "rounds in the event", len(event.stored))
     for number, matches in enumerate(event.stored, 1):
         seats = [match[:2] for match in matches]
         of_round = [text for text in texts if text.round == number]
@@ -198,7 +223,10 @@ def check_event(report, file, name=None):
         else:
             report.head(f"round {number} in the event")
             report.say(TOLD, CHOSEN)
-            report.say(RIGHT if lines[number - 1].endswith(AS_THE_RULES) else TOLD, lines[number - 1].partition(": ")[2])
+            is_right = lines[number - 1].endswith(AS_THE_RULES)
+            report.say(RIGHT if is_right else TOLD, lines[number - 1].partition(": ")[2])
+            if not is_right:
+                report.note(report.unsure_at)
     return event
 
 
@@ -229,6 +257,7 @@ def rows_due(event):
 
 def check_standings(report, name, data, event):
     said, rules = rows_printed(data), rows_due(event)
+    report.count("list of standings", "lists of standings")
     report.head(f"standings ({name})")
     if said == rules:
         report.say(RIGHT, "they are those of the rules, by the results as they are now")
@@ -290,8 +319,12 @@ def check_lists(report, given):
     if "keys" in given:
         keys = keys_of(b"".join(data for _, data in given["keys"]).decode("utf-8", "replace"))
         lines = verdicts(results_of(results, len(names_of(players))), keys)
-        print("\n".join(lines) or "no round is paired yet")
-        report.status = report.status or int(not all(it.endswith(AS_THE_RULES) for it in lines))
+        report.count("round", "rounds", len(lines))
+        for number, line in enumerate(lines, 1):
+            report.head(line, f"round {number}")
+            if not line.endswith(AS_THE_RULES):
+                report.status = 1
+                report.note(report.unsure_at)
     return event
 
 
@@ -324,6 +357,7 @@ def run(given):
         if event is None:
             raise Fault("--who needs the event, or its players and results")
         say_working(event, given.who)
+    report.end()
     return report.status
 
 
