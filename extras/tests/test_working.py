@@ -4,6 +4,7 @@ from dataclasses import replace
 import pytest
 
 from companions.event import Event
+from companions.prompt.players import working_lines
 from companions.working import percent, share_shown, working_of
 from from_model import FromModel
 from scripts.clients.random_evenings import COMPLETE, OPEN, evening
@@ -37,6 +38,11 @@ def test_by_hand(three):
     assert share_shown(ana.opponents_match_wins) == share_shown(ana.opponents_game_wins) == "2/3 = 66.67"
     assert ana.differing == []
     assert working_of(three, 4) is None
+
+
+def test_the_least_that_counts_is_said(three):
+    lines = working_lines(working_of(three, 2))
+    assert lines[-1] == "  No MWP or GWP counts as less than 33."
 
 
 @pytest.mark.parametrize("way", [OPEN, COMPLETE])

@@ -293,6 +293,7 @@ def say_working(event, player):
             print(f"  round {number}, bye: nobody's opponent")
     print(f"  OMW, the average of the opponents' MWP: {share(merits[player][1])}")
     print(f"  OGW, the average of the opponents' GWP: {share(merits[player][3])}")
+    print("  no MWP or GWP counts as less than 33")
 
 
 # ---- the command

@@ -292,6 +292,7 @@ def working_lines(working: Working) -> list[str]:
     return lines + [
         f"  OMW, the average of their MWP: {share_shown(working.opponents_match_wins)}",
         f"  OGW, the average of their GWP: {share_shown(working.opponents_game_wins)}",
+        "  No MWP or GWP counts as less than 33.",
     ]
 
 
