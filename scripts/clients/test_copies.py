@@ -25,7 +25,7 @@ def test_copies(prompt, room, started):
     held = {it: open(f"{file}.copies/{it}", "rb").read() for it in copies}
     text = prompt.said(file, "back")
     check_said("back lists them", text, "   1  20", "before the pairing of round 1\n", "   2  20", "before the drop of P3 (3)\n", "   3  20", "before the pairing of round 2\n", "as: back 3")
-    check_said("no is no", prompt.said(file, "back 2", "n"), "The event stays as it is.")
+    check_said("no is no", unfilled(prompt.said(file, "back 2", "n")), f"That takes back: the pairing of round 2, 2 scores, 1 player who came, 1 drop. Go on from this copy?", "The event stays as it is.")
     assert rows_alone(file) == before, "no is no, the file"
     key = dict(keys_of(file))[2].hex()
     text = prompt.said(file, "back 2", "y")
@@ -52,7 +52,7 @@ def test_copies(prompt, room, started):
     assert sorted((a, b) for a, b, _ in read(file).stored[1]) == played(before), "the same round"
     assert len(keys_of(file)) == 2, "no key was added"
     text = prompt.said(file, "back 4", "y", "back")
-    check_said("back to what was put away", text, "put away by back", "round 2, 3 tables open: 2-4", "   7  20", "put away by back")
+    check_said("back to what was put away", text, "put away by back", "That takes back: nothing.\nIt has, and the event in use has not: 1 score.\n", "round 2, 3 tables open: 2-4", "   7  20", "put away by back")
     assert rows_alone(file) == before, "back to what was put away, the file"
     goes_on_after_a_stop(prompt, file)
 
@@ -127,7 +127,7 @@ def test_back_over_the_cut(prompt, started):
     check_said("undo after a drop", prompt.said(file, "undo"), "take back drop 7", "The last one: back 2, made before the drop of Di (4)\n")
     text = prompt.said(file, "cut", "y", "undo", "play final 2 1", "undo")
     check_said("undo in the playoff", text, "back 3, made before the cut\n", "back 4, made before the score of the final\n")
-    check_said("back over the cut", prompt.said(file, "back 3", "y"), "The playoff was begun since. To begin it again: cut", "  play final 2 1\n")
+    check_said("back over the cut", prompt.said(file, "back 3", "y"), "That takes back: the cut, 1 score of the playoff.\n", "The playoff was begun since. To begin it again: cut", "  play final 2 1  Ana (1) 2-1-0 ")
 
 
 def test_copy_by_hand(prompt, started):

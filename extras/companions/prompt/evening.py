@@ -24,6 +24,7 @@ from companions.prompt.session import Command, Session
 from companions.prompt.since import (
     Missing,
     came_since,
+    counted_since,
     left_in,
     missing_since,
     results_since,
@@ -237,6 +238,7 @@ class Evening:
         # it is declined before the question too
         with session.source.turn.taken(), held_by_nobody(session.file):
             session.say(shown)
+        self.say_what_goes(after)
         if not session.lines.says_yes("Go on from this copy? The event in use is put away beside it."):
             raise Declined("The event stays as it is.")
         with unbroken(), session.source.turn.taken():
@@ -252,6 +254,15 @@ class Evening:
         session.say_where()
         if before:
             self.type_again(before)
+
+    def say_what_goes(self, copy: Event) -> None:
+        """All that is otherwise in a copy, since the copy is named by one thing alone."""
+        now = read_or_none(self.session.source)
+        if now:
+            gone, back = counted_since(now, copy), counted_since(copy, now)
+            self.session.say_filled(f"That takes back: {gone or 'nothing'}.")
+            if back:
+                self.session.say_filled(f"It has, and the event in use has not: {back}.")
 
     def type_again(self, before: Event) -> None:
         """Says what came since the copy, and at a terminal offers to type again what can be."""

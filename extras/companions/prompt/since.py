@@ -10,6 +10,7 @@ from companions.keys import Keys
 from companions.names import visible
 from companions.reports import words_to_store
 from companions.stages import slot_typed
+from companions.wording import counted
 
 # a line to type takes so many columns, before whose it is
 WIDTH_OF_A_LINE = 12
@@ -100,6 +101,27 @@ def playoff_since(before: Event, now: Event) -> list[str]:
     if scores:
         found += ["Scores of the playoff that came since, where the same players meet:", *scores]
     return found
+
+
+def counted_since(before: Event, now: Event) -> str:
+    """What the first event has and the second one hasn't, in a few words; or nothing."""
+    later = range(len(now.rounds) + 1, len(before.rounds) + 1)
+    came = sum(number not in now.enrolled for number in before.enrolled)
+    scores = sum(match.score is not None and not match.is_bye for at in later for match in before.rounds[at - 1])
+    scores += sum(1 for at in range(1, len(now.rounds) + 1) for _ in results_since(before, now, at))
+    drops = sum(missing.words[0] == "drop" for missing in players_since(before, now))
+    of_playoff = sum(
+        match.score is not None and now.score_in(stage, str(match.place)) != match.score
+        for stage, matches in enumerate(before.stages, 1)
+        for match in matches
+    )
+    found = [f"the pairing of round {number}" for number in later]
+    found += [counted(scores, "score")] * bool(scores)
+    found += [f"{counted(came, 'player')} who came"] * bool(came)
+    found += [counted(drops, "drop")] * bool(drops)
+    found += ["the cut"] * bool(before.stages and not now.stages)
+    found += [f"{counted(of_playoff, 'score')} of the playoff"] * bool(of_playoff)
+    return ", ".join(found)
 
 
 def left_in(answer: str, missing: list[Missing]) -> Optional[list[Missing]]:
