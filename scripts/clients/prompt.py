@@ -226,7 +226,7 @@ class Evening:
         self.expect("n", "The playoff was not begun.")
         answer = self.event.end_rounds()
         self.expect("cut", "The playoff would begin so:")
-        self.taken("y", answer, *self.event.bracket())
+        self.taken("y", answer, *self.event.bracket(), begun(next_due(self.event)))
 
     def score_slot(self):
         event = self.event

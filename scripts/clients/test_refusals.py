@@ -107,8 +107,8 @@ def test_refusals_of_phases(prompt, started, refused_by):
     event, file = started("Ana", "Bo", "Cy", "Di", rounds=1, cut=2)
     prompt.said(file, "pair", "1 2 0", "2 2 0", "cut", "y")
     refused_by(file, 6, "NotSwiss", ["1 2 0"], "the playoff has begun. See: open")
-    refused_by(file, 6, "NotSwiss", ["drop 1"], "nobody drops any more", "play qf2 2 0")
-    refused_by(file, 13, "BadScore", ["play final 2 2"], "Not stored: final: ", "No match of the playoff ends so", "play qf2 2 1")
+    refused_by(file, 6, "NotSwiss", ["drop 1"], "nobody drops any more", "wins: play final 2 0")
+    refused_by(file, 13, "BadScore", ["play final 2 2"], "Not stored: final: ", "No match of the playoff ends so", "play final 2 1")
     prompt.said(file, "play final 2 1")
     refused_by(file, 6, "NotSwiss", ["fix 1 2 0"], "The event is over")
 

@@ -22,7 +22,9 @@ from companions.program import FAULTS, Declined, Refusal, Refused
 from companions.prompt.lines import minutes_in, minutes_of, numbers_in, score_in, unbroken, with_score
 from companions.prompt.session import Command, Session, tables_named
 from companions.stages import slot_shown, words_of_slot
-from companions.wording import ranges
+from companions.wording import counted, ranges
+
+PLAY = "play qf2 2 1, or play final 2 0"
 
 
 class Rounds:
@@ -225,6 +227,7 @@ class Rounds:
         session.send_copied(Command(("cut",), lambda event: bool(event.stages)), "cut")
         stop_clock(session.file)
         session.show("bracket")
+        session.say_filled(begun(session.next_step()))
         session.show_now()
         session.has_moved = True
 
@@ -267,10 +270,10 @@ class Rounds:
         session = self.session
         named = words_of_slot(rest, session.event.first_stage)
         if not named:
-            stage_word, slot, *counts = numbers_in(rest, 4, 5, "play qf2 2 1, or play final 2 0")
+            stage_word, slot, *counts = numbers_in(rest, 4, 5, session.fitted(PLAY))
             return int(stage_word), slot, counts
         stage, place, score = named
-        counts = numbers_in(with_score(f"0 {score}"), 3, 4, "play qf2 2 1, or play final 2 0")[1:]
+        counts = numbers_in(with_score(f"0 {score}"), 3, 4, session.fitted(PLAY))[1:]
         if session.event.stages and stage < 1:
             first = slot_shown(1, 1, session.event.first_stage)
             raise Declined(f"This playoff begins with the {first.split()[0]}. See: bracket")

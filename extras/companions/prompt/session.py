@@ -178,10 +178,16 @@ class Session:
         self.has_failed = True
         if refused.printed:
             self.say(refused.printed.rstrip("\n"))
-        self.say(self.case_of(refused, word) or REFUSALS.get(refused.number, "See: help"))
+        self.say(self.fitted(self.case_of(refused, word) or REFUSALS.get(refused.number, "See: help")))
         if refused.more:
             self.say(refused.more)
         self.say(f"({refused})")
+
+    def fitted(self, text: str) -> str:
+        """A text with an example that fits this playoff, if it can be read."""
+        with contextlib.suppress(*FAULTS):
+            return fitted(text, self.event) if "qf2" in text else text
+        return text
 
     def case_of(self, refused: Refused, word: str) -> str:
         if refused.number == Refusal.NO_EVENT and self.is_missing():
@@ -419,16 +425,23 @@ def next_step(event: Event) -> str:
     return f"round {number} has all its scores. {after}"
 
 
-def next_in_playoff(event: Event) -> str:
-    still_open = [
+def open_slots(event: Event) -> list[tuple[int, int]]:
+    """Stage and slot of the matches of the playoff that have no score."""
+    return [
         (stage, match.place)
         for stage, matches in enumerate(event.stages, 1)
         for match in matches
         if match.is_open
     ]
     first = event.first_stage
-    told = ", ".join(slot_shown(stage, slot, first) for stage, slot in still_open)
-    return f"open: {told}. Next: play {slot_typed(*still_open[0], first)} 2 0"
+    told = ", ".join(slot_shown(stage, slot, first) for stage, slot in open_slots(event))
+    return f"open: {told}. Next: {fitted('play qf2 2 0', event)}"
+
+
+def fitted(text: str, event: Event) -> str:
+    """A text whose example, quarterfinal 2, becomes the first match of the playoff that is open, if one is."""
+    still_open = open_slots(event)
+    return text.replace("qf2", slot_typed(*still_open[0], event.first_stage)) if still_open else text
 
 
 def tables_named(matches: Matches) -> str:
