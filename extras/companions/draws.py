@@ -197,6 +197,11 @@ class Draws:
         shut, drawn = self.drawings(number, "shut"), self.drawings(number, "txt")
         return shut[-1] if shut and shut[-1] not in drawn else 0
 
+    def newest_open(self) -> int:
+        """The newest round whose lists are shut, and which is not drawn by them yet; or 0."""
+        newest = max((int(match[1]) for match in self.names()), default=0)
+        return newest if self.is_open(newest) else 0
+
     def shut(self, number: int, drawing: int) -> Optional[Lists]:
         try:
             with open(self.path(number, drawing, "shut"), "rb") as kept:

@@ -159,11 +159,63 @@ def test_what_is_no_number(prompt, begin):
         f"pair {' '.join(['1'] * 21)}": "1 to 20 values",
         "pair 17 3 8 -1": "As: pair, pair 17 3 8 11",
         "pair 17 3 8 11 by 12": "No player has number 12.",
-        "pair 50": "The rule is each 4d20",
+        "pair 50": "Rounds are drawn, and 50 alone is no throw.\nFor a clock of 50 minutes: pair 17 3 8 11 50min",
     }
     said = {line: prompt.said(file, line) for line in cases}
     assert [line for line, due in cases.items() if due not in said[line]] == []
     assert (numbers_of(file), read(file).stored) == ([], [])
+
+
+def test_minutes_alone_are_no_throw(prompt, begin):
+    """It is said how a clock is typed at each point, and nothing is shut or paired by it."""
+    file = begin()
+    check_said("before the lists are shut", prompt.said(file, "pair 50"), "For a clock of 50 minutes: pair, and after the throw: pair 17 3 8 11 50min")
+    assert not os.path.exists(f"{file}.draws/round-1-1.shut")
+    prompt.said(file, "pair", "pair 17 3 8 11", "back 1", "y")
+    check_said("once there is a number", prompt.said(file, "pair 50"), "For a clock of 50 minutes: pair 50min")
+    assert read(file).stored == []
+    check_said("as it says", prompt.said(file, "pair 50min"), "Round 1: number 3 8 11 17", "The clock runs: 50 min")
+
+
+def test_minutes_are_what_they_were_once_the_draw_is_ended(prompt, begin):
+    file = begin(FOUR)
+    check_said("a clock", prompt.said(file, "draw off", "y", "pair 50"), "Round 1: KEY CHOSEN BY THE SCOREKEEPER", "The clock runs: 50 min")
+
+
+def test_a_throw_without_its_word(prompt, begin):
+    """While the lists are shut; before that and after it, numbers are a score."""
+    file = begin(FOUR)
+    told = "What the dice showed: pair 17 3 8 11. Another score for a table: fix 17 0 2"
+    assert told not in prompt.said(file, "17 3 8 11")
+    prompt.said(file, "pair")
+    check_said("it is named", prompt.said(file, "17 3 8 11"), "The lists are shut for round 1, and each table has its score.", told)
+    check_said("with those who threw", prompt.said(file, "17, 3, 8, 11 by 1 2"), "What the dice showed: pair 17, 3, 8, 11 by 1 2. ")
+    assert numbers_of(file) == []
+    assert told not in prompt.said(file, "pair 17 3 8 11", "17 3 8 11")
+    said = prompt.said(file, *scored(2), "pair", "take back 1", "y", "1 2 0 1")
+    check_said("a table that is open again takes its score", said, "is open again", "Round 1, table 1", "2-0-1")
+
+
+def test_lists_that_changed_while_they_were_shut(prompt, begin):
+    """It is said once for each change that `pair` shuts them again, until they are as they were."""
+    file = begin()
+    told = "The lists of round 1 were shut before this. To shut them again: pair."
+    assert told not in prompt.said(file, "drop 1", "y")
+    prompt.said(file, "pair")
+    assert told not in prompt.said(file, "where", "players")
+    check_said("a drop", unfilled(prompt.said(file, "drop 3", "y")), "P3 (3) is dropped.", f"{told} Throw after that.")
+    said = unfilled(prompt.said(file, "where", "who 4", "enrol Al", "where"))
+    check_said("another change", said, told, "Al (8) is enrolled.", told)
+    assert said.count(told) == 2
+    check_said("it does", unfilled(prompt.said(file, "pair", "where")), "Round 1: the lists are shut, drawing 2.", "8 came, 3 dropped")
+    assert told not in prompt.said(file, "where")
+
+
+def test_lists_that_changed_before_the_round_got_its_number(prompt, begin):
+    file = begin(FOUR)
+    prompt.said(file, "pair", "pair 17 3 8 11", "back 1", "y", "pair 5 5 5 5")
+    said = unfilled(prompt.said(file, "pair", *scored(2), "pair", "drop 1", "y"))
+    check_said("of the next round", said, "The lists of round 2 were shut before this. To shut them again: pair. Throw after that.")
 
 
 def test_more_dice_those_who_threw_and_a_clock(prompt, begin):
@@ -223,10 +275,16 @@ def test_papers(prompt, begin):
 
 def test_the_rule_is_made_before_the_start(prompt, room):
     file = f"{room}/e.event"
-    said = prompt.said(file, "init E 3 0", "enrol Ana", "enrol Bo", "draw", "draw on 1d20", "draw on once papers", "draw maybe", "draw on 8d6", "draw on", "draw")
+    check_said("where says so", prompt.said(file, "init E 3 0", "where"), *["To have dice draw the rounds, before start: draw on\n"] * 2)
+    said = prompt.said(file, "enrol Ana", "enrol Bo", "draw", "draw on 1d20", "draw on once papers", "draw maybe", "draw on 8d6", "draw on", "draw")
     check_said("before", unfilled(said), "Nothing is drawn: each round has a key that the scorekeeper chooses", *["As: draw on, before the start"] * 3, "Rounds are drawn: each 8d6.", "Rounds are drawn: each 4d20.", "The rule of the evening: each 4d20")
     check_said("taken away", prompt.said(file, "draw off", "draw"), "Nothing is drawn.", "Nothing is drawn: each round")
-    check_said("after it", prompt.said(file, "draw on", "start", "draw on 5d10"), "The rule of the evening is made before the start")
+    other = prompt.said(f"{room}/other.event", "init E 3 0", "enrol Ana", "enrol Bo", "start", "where")
+    check_said("start without it", other, "Each round gets a key that the prompt makes. For draw on it is too late now.\n")
+    assert "too late" not in other.split("too late")[-1]
+    said = prompt.said(file, "draw on", "where", "start", "draw on 5d10")
+    check_said("after it", said, "Dice draw the rounds: each 4d20\n", "no round is paired yet", "The rule of the evening is made before the start")
+    assert "too late" not in said
     said = prompt.said(file, "draw off", "y", "draw on", "pair")
     check_said("ended", unfilled(said), "It can't be put on again.", "made before the start", "Round 1: KEY CHOSEN BY THE SCOREKEEPER")
     assert lines_of(text_of(file, 1))["number"] == "-"

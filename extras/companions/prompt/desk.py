@@ -92,6 +92,7 @@ class Desk(cmd.Cmd):
 
     def enter(self, line: str) -> None:
         """A result, and who drops by the same slip: 17 2 1 drop 12."""
+        self.drawing.must_be_no_throw(line)
         score, *dropping = re.split(r"\s+drop\s+", line, flags=re.I)
         self.results.enter(score)
         for player in dropping:
@@ -283,7 +284,9 @@ class Desk(cmd.Cmd):
         session = self.session
         session.look_again()
         try:
-            return bool(self.onecmd(line))
+            is_end = bool(self.onecmd(line))
+            self.drawing.say_if_changed()
+            return is_end
         except Refused as refused:
             session.explain(refused, line.split()[0].lower())
         except Declined as fault:

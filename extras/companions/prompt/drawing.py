@@ -3,6 +3,7 @@ thrown, and their number is kept before a key is made of it.
 """
 from __future__ import annotations
 
+import contextlib
 import os
 import re
 import secrets
@@ -11,6 +12,7 @@ from dataclasses import dataclass
 from typing import Iterator, Optional
 
 from companions.checking import copies_before, differing_tables, keys_of, opened, paired_copy
+from companions.clock import MOST_MINUTES
 from companions.copies import Copy
 from companions.draw import (
     NONE,
@@ -79,6 +81,14 @@ def values_and_throwers(text: str) -> tuple[list[str], str]:
     return values, by_of(map(int, numbers))
 
 
+def values_in(line: str) -> tuple[str, ...]:
+    """What dice showed, if a line says nothing else."""
+    try:
+        return wanted_by(line).values
+    except Declined:
+        return ()
+
+
 def chosen_key(word: str) -> str:
     return word.lower() if len(word) == 64 else secrets.token_hex(32)
 
@@ -91,6 +101,8 @@ def lists_now(source: Source) -> Lists:
 class Drawing:
     def __init__(self, session: Session, rounds: Rounds):
         self.session, self.rounds, self.draws = session, rounds, session.draws
+        # the lists that were told last to be others than those that were shut
+        self.told: Optional[Lists] = None
 
     # ---- the rule
 
@@ -198,7 +210,7 @@ class Drawing:
     # ---- pair
 
     def pair(self, rest: str) -> None:
-        session, wanted = self.session, wanted_by(rest)
+        session, wanted = self.session, self.without_bare_minutes(wanted_by(rest))
         if not session.goes_on_in_doubt("Pair"):
             raise Declined("Nothing was paired.")
         with unbroken():
@@ -218,6 +230,26 @@ class Drawing:
         session.show_now()
         session.has_moved = True
         self.rounds.set_clock(wanted.minutes)
+
+    def without_bare_minutes(self, wanted: Wanted) -> Wanted:
+        """Minutes alone, as `pair` takes them where nothing is drawn, are no throw. Once the draw was ended they
+        are what they were.
+        """
+        rule = self.draws.rule
+        minutes = int(wanted.values[0]) if len(wanted.values) == 1 else 0
+        if not rule or not 1 <= minutes <= MOST_MINUTES:
+            return wanted
+        if rule.is_off:
+            return Wanted(minutes=minutes)
+        number = len(self.session.event.rounds) + 1
+        way = f"{rule.example} {minutes}min"
+        if self.draws.numbers(number):
+            way = f"pair {minutes}min"
+        elif not self.draws.is_open(number):
+            way = f"pair, and after the throw: {way}"
+        raise Declined(
+            f"Rounds are drawn, and {minutes} alone is no throw.\nFor a clock of {minutes} minutes: {way}"
+        )
 
     def must_be_due(self, number: int) -> None:
         """What would be refused is refused before anything is shut: the program pairs a copy."""
@@ -324,6 +356,39 @@ class Drawing:
         instead = "; ".join(it.number for it in others) or NONE
         tables, after = tables_of(results, number), self.draws.last_sum()
         return DrawText(number, drawing, after, used.number, used.by, instead, key, lists, tables)
+
+    # ---- other lines, while the lists are shut
+
+    def must_be_no_throw(self, line: str) -> None:
+        """While dice are thrown each table has its score, so that numbers alone are what they showed."""
+        number = self.draws.newest_open()
+        rule = self.draws.rule if number else None
+        if not rule or rule.is_off or len(values_in(line)) < rule.least:
+            return
+        event = self.session.event
+        if number != len(event.rounds) + 1 or event.open_tables() or self.draws.numbers(number):
+            return
+        raise Declined(
+            f"The lists are shut for round {number}, and each table has its score.\n"
+            f"What the dice showed: pair {visible(line)}. Another score for a table: fix 17 0 2"
+        )
+
+    def say_if_changed(self) -> None:
+        """After a line: that the lists are no longer those that were shut, once for each change."""
+        with contextlib.suppress(*FAULTS, OSError):
+            number = self.draws.newest_open() if self.draws.is_on else 0
+            if number and number == len(self.session.event.rounds) + 1:
+                self.say_changed(number)
+
+    def say_changed(self, number: int) -> None:
+        with self.session.source.turn.taken():
+            lists = lists_now(self.session.source)
+        is_told = lists in (self.told, self.draws.shut(number, self.draws.is_open(number)))
+        self.told = lists
+        if not is_told:
+            after = "The number stays." if self.draws.numbers(number) else "Throw after that."
+            shut_again = f"The lists of round {number} were shut before this. To shut them again: pair"
+            self.session.say_filled(f"{shut_again}. {after}")
 
     # ---- after a stop
 

@@ -104,6 +104,8 @@ class Evening:
             session.send(Command(("start",), lambda event: event.phase is not Phase.ENROLLING))
         session.has_moved = True
         session.say_where()
+        if not session.draws.rule:
+            session.say("Each round gets a key that the prompt makes. For draw on it is too late now.")
 
     def must_work_out(self) -> None:
         """Says what is usual for so many players, and asks if rounds or cut may not work out."""

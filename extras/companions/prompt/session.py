@@ -49,6 +49,9 @@ from companions.wording import counted, ranges
 
 # neither `pair` nor `cut` goes on
 DEAD_ENDS = (Refusal.NO_PAIRING, Refusal.ROUNDS_NOT_DONE, Refusal.TOO_FEW_FOR_CUT)
+# the line that was typed, and the prompt for the next one
+ROWS_OF_A_LINE = 2
+TO_DRAW = "To have dice draw the rounds, before start: draw on"
 # who types when something is told has not read it by then
 SECONDS_TO_READ = 3
 
@@ -281,6 +284,9 @@ class Session:
         plan = plan_of(self.file, self.source.turn)
         if plan:
             self.say(plan.shown(len(self.event.rounds) if self.event.phase is Phase.SWISS else 0))
+        if self.event.phase is Phase.ENROLLING:
+            rule = self.draws.rule
+            self.say(f"Dice draw the rounds: {rule.text}" if rule else TO_DRAW)
 
     def standing_doubts(self) -> list[Doubt]:
         return self.doubts.standing(self.event.rounds)
