@@ -10,7 +10,7 @@ import re
 import tempfile
 import unicodedata
 from dataclasses import dataclass, field
-from typing import Iterator, List, Optional
+from typing import Iterator, List, Optional, Sequence
 
 from companions.names import compared, listed, visible
 from companions.program import Declined
@@ -52,6 +52,17 @@ class Roster:
     left_out: list[str] = field(default_factory=list)
     # last names of several words, or that come first, if the list has them apart
     lasts: dict[str, str] = field(default_factory=dict)
+
+    @property
+    def counts(self) -> str:
+        """How many of each kind, as: 37 to enrol, 1 left out."""
+        kinds: dict[str, Sequence[object]] = {
+            "to enrol": self.names,
+            "enrolled already": self.already,
+            "perhaps there already": self.alike,
+            "left out": self.left_out,
+        }
+        return ", ".join(f"{len(found)} {what}" for what, found in kinds.items() if found)
 
 
 @dataclass(frozen=True)

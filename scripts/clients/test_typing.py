@@ -108,6 +108,37 @@ def test_a_stage_that_the_playoff_has_not(prompt, started):
     assert read(file).stages[0][0][2] is None
 
 
+# ---- lists that are longer than the screen
+
+
+def test_what_is_out_of_sight_is_said_again(prompt, room):
+    """At a terminal of 24 rows the last lines say what the first ones did; in a pipe nothing is out of sight."""
+    file, names = f"{room}/e.event", [f"P{number}" for number in range(1, 51)]
+    with open(f"{room}/fifty.csv", "w") as it:
+        it.write("\n".join(["Name", *names, "P1"]) + "\n")
+    prompt.said(file, "init Friday 3 2")
+    terminal = prompt.terminal(file)
+    said = terminal.send(f"import {room}/fifty.csv")
+    check_said("a list of players", unfilled(said), "Left out:", f"{room}/fifty.csv, UTF-8, the column Name: 50 to enrol, 1 left out Enrol 50 players?")
+    terminal.send("y")
+    check_said("the players", terminal.send("players"), "  50   P50\n50 players. Some of them: who an\n")
+    terminal.send("start")
+    terminal.send("y")
+    check_said("a pairing", terminal.send("pair"), f"{keys_of(file)[-1][1].hex()}\nRound 1 is paired: 25 tables. All of it: round, or print names\n")
+    check_said("a round", terminal.send("round 1"), "These are the tables of round 1. On paper: print tables\n")
+    check_said("what is open", terminal.send("open"), "  25  ", "Round 1, 25 tables open: 1-25\n")
+    before = "These are the standings before round 1 is complete. The first eight: standings top 8\n"
+    check_said("standings", terminal.send("standings"), unfilled(before))
+    assert "These are" not in terminal.send("standings 8")
+    prompt.said(file, *(f"{table} 2 0" for table in range(1, 26)), "drop 1", "y", "plan 1 2", "cut", "y", "play final 2 0")
+    check_said("standings after a round", unfilled(terminal.send("standings")), "These are the standings after round 1. The first eight: standings top 8")
+    champion = player_shown(read(file), read(file).stages[0][0][0])
+    said = terminal.send("final")
+    check_said("the final ranking", unfilled(said), f"This is the final ranking. The champion is {champion}. The first eight: final 8")
+    assert "This is" not in terminal.send("final 8") and "These are" not in prompt.said(file, "standings", "final", "round 1")
+    assert terminal.end()[0] == 0
+
+
 # ---- players
 
 

@@ -36,6 +36,7 @@ from companions.prompt.texts import (
     PLAYOFF,
 )
 from companions.sheets.parts import PARTS
+from companions.wording import counted
 
 # the command line's words for what is shorter here, and other spellings; they are taken, and not offered
 ALIASES = ("result", "correct", "slips", "playoff", "exit", "enroll")
@@ -153,7 +154,9 @@ class Desk(cmd.Cmd):
 
     def do_players(self, rest: str) -> None:
         only("players", rest)
-        self.session.show("players")
+        session = self.session
+        session.show("players")
+        session.say_again(lambda: f"{counted(len(session.event.players), 'player')}. Some of them: who an")
 
     def do_bracket(self, rest: str) -> None:
         only("bracket", rest)
@@ -283,6 +286,7 @@ class Desk(cmd.Cmd):
         """Does what a line says. Whether to end."""
         session = self.session
         session.look_again()
+        session.rows = 0
         try:
             is_end = bool(self.onecmd(line))
             self.drawing.say_if_changed()

@@ -227,6 +227,7 @@ class Drawing:
             session.copy_to_second_place(copy)
         session.show("slips", str(number))
         self.say_text(text)
+        self.rounds.say_paired(number)
         session.show_now()
         session.has_moved = True
         self.rounds.set_clock(wanted.minutes)

@@ -51,3 +51,5 @@ class Listing:
         if not ranking:
             raise Declined("There is no champion yet. Until then: standings")
         session.say(*(f"{ranked.rank:4}  {shown_player(ranked.player)}" for ranked in ranking[:first]))
+        champion = f"The champion is {shown_player(ranking[0].player)}."
+        session.say_again(lambda: f"This is the final ranking. {champion} The first eight: final 8")

@@ -184,6 +184,7 @@ class Players:
         data = read_list(path)
         roster = roster_of(data, {player.name for player in session.event.enrolled.values()}, codec)
         self.say_roster(path, roster)
+        session.say_again(lambda: f"{visible(path)}, {roster.how}: {roster.counts}")
         names = self.names_to_enrol(roster)
         if not names:
             return

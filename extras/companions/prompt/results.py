@@ -204,4 +204,5 @@ class Results:
         session.say(*map(self.shown_doubt, doubts))
         if not still_open and not doubts and event.phase is not Phase.PLAYOFF:
             session.say(session.next_step())
+        session.say_again(lambda: begun(session.next_step()))
         session.show_now()

@@ -75,9 +75,21 @@ class Rounds:
             session.copy_to_second_place(copy)
         session.show("slips", str(number))
         self.say_key(number, key, differing)
+        self.say_paired(number)
         session.show_now()
         session.has_moved = True
         self.set_clock(minutes)
+
+    def say_paired(self, number: int) -> None:
+        """After a list of tables that is longer than the screen."""
+
+        def paired() -> str:
+            tables = self.session.event.rounds[number - 1]
+            byes = " and a bye" if any(match.is_bye for match in tables) else ""
+            count = counted(sum(not match.is_bye for match in tables), "table")
+            return f"Round {number} is paired: {count}{byes}. All of it: round, or print names"
+
+        self.session.say_again(paired)
 
     def set_clock(self, minutes: Optional[int]) -> None:
         """The clock of the round before ends, and one of this round starts if its minutes were typed."""
@@ -165,7 +177,9 @@ class Rounds:
 
     def show_round(self, rest: str) -> None:
         words = numbers_in(rest, 0, 1, "round 3")
-        self.session.show("slips", words[0] if words else str(len(self.session.event.rounds)))
+        number = words[0] if words else str(len(self.session.event.rounds))
+        self.session.show("slips", number)
+        self.session.say_again(lambda: f"These are the tables of round {number}. On paper: print tables")
         if not words:
             self.session.show_now()
 
@@ -177,6 +191,7 @@ class Rounds:
             raise Declined("As: standings, standings 8 for the first eight, or standings after 3")
         if not found[2]:
             session.show("standings")
+            self.say_of_which_round()
             return
         word, count = (found[1] or "").lower(), int(found[2])
         is_round = word not in ("top", "first") and (word or 1 <= count <= len(session.event.rounds))
@@ -190,6 +205,7 @@ class Rounds:
         heading, *lines = session.with_names(session.source.text("standings")).splitlines(keepends=True)
         session.say(f"The first {min(count, len(lines))} of {len(lines)}:")
         session.say_as_it_is("".join([heading, *lines[:count]]))
+        session.say_again(lambda: f"These are the first {min(count, len(lines))} of {len(lines)}.")
 
     def standings_after(self, number: int) -> None:
         """They are kept in the copy that was made before the next round."""
@@ -200,6 +216,7 @@ class Rounds:
         if number == paired:
             session.say(f"After round {number}:")
             session.show("standings")
+            self.say_of_which_round(number)
             return
         found = standings_after(session.source, session.copies, number, session.event.rounds)
         if not found:
@@ -208,6 +225,17 @@ class Rounds:
         when = f"as they stood when round {number + 1} was paired (copy {copy.number})"
         session.say(f"After round {number}, {when}:")
         session.say_as_it_is(session.with_names(text))
+        self.say_of_which_round(number)
+
+    def say_of_which_round(self, number: Optional[int] = None) -> None:
+        """After standings that are longer than the screen: after which round, if not after the last complete one."""
+
+        def told() -> str:
+            after = self.session.event.complete_rounds() if number is None else number
+            of = f"after round {after}" if after else "before round 1 is complete"
+            return f"These are the standings {of}. The first eight: standings top 8"
+
+        self.session.say_again(told)
 
     def show_keys(self) -> None:
         lines = [f"round {number} {key}" for number, key in self.session.keys.all()]

@@ -4,6 +4,7 @@ from __future__ import annotations
 import contextlib
 import math
 import os
+import shutil
 import tempfile
 import textwrap
 import time
@@ -73,6 +74,8 @@ class Session:
         self.draws = Draws(file)
         self.event = Event(source, file)
         self.has_failed = False
+        # how many rows were said since a line was typed
+        self.rows = 0
         # what the prompt has shown of the event, when, and what before that; what it knows; and whether it
         # went on itself since
         self.shown, self.shown_at, self.shown_before = Progress(), -math.inf, Progress()
@@ -151,14 +154,24 @@ class Session:
 
     def say(self, *lines: str) -> None:
         for line in lines:
-            print(line)
+            self.write(f"{line}\n")
 
     def say_filled(self, text: str) -> None:
         """A line that may be longer than the terminal is wide, as where many tables are open."""
-        print(textwrap.fill(text, WIDTH, break_long_words=False, break_on_hyphens=False))
+        self.write(f"{textwrap.fill(text, WIDTH, break_long_words=False, break_on_hyphens=False)}\n")
 
     def say_as_it_is(self, text: str) -> None:
-        print(visible(text), end="")
+        self.write(visible(text))
+
+    def write(self, text: str) -> None:
+        self.rows += text.count("\n")
+        print(text, end="")
+
+    def say_again(self, text: Callable[[], str]) -> None:
+        """What counts of a list, if its head is out of sight by now."""
+        is_out = self.rows > shutil.get_terminal_size().lines - ROWS_OF_A_LINE
+        if self.lines.is_terminal and is_out:
+            self.say_filled(text())
 
     def show(self, name: str, *words: str) -> None:
         """A text of the program, with the names by which players are shown."""
@@ -439,6 +452,9 @@ def open_slots(event: Event) -> list[tuple[int, int]]:
         for match in matches
         if match.is_open
     ]
+
+
+def next_in_playoff(event: Event) -> str:
     first = event.first_stage
     told = ", ".join(slot_shown(stage, slot, first) for stage, slot in open_slots(event))
     return f"open: {told}. Next: {fitted('play qf2 2 0', event)}"
