@@ -69,7 +69,7 @@ def corruption(is_long):
 def package(is_long):
     yield "package/test_version.py"
     yield "package/test_release.py"
-    yield module("package.run_wrapper")
+    yield "package/test_wrapper.py"
     if is_long:
         yield module("package.systems")
 

@@ -1,4 +1,4 @@
-"""Runs `./event_reporter` and `scripts/build` in a checkout of its own, where the program, the toolchain and the build are stand-ins: from any folder
+"""`./event_reporter` and `scripts/build` in a checkout of their own, where the program, the toolchain and the build are stand-ins: from any folder
 and through links, with and without a toolchain, with and without a program, with newer sources, at a terminal and away from one. Nothing is proved or
 built, and no file may be left anywhere.
 """
@@ -9,11 +9,11 @@ import shutil
 import signal
 import subprocess
 import sys
-import tempfile
-import time
+
+import pytest
 
 from scripts import TOP
-from scripts.clients.tally import check, end
+from scripts.clients.waiting import PATIENCE, comes
 
 PROGRAM = "crates/event_reporter/out/event_reporter"
 STAND_IN = '#!/bin/sh\necho "ran $#: $*"\n[ "${1:-}" != refused ] || { echo "refused 14 AlreadyReported" >&2; exit 1; }\n[ "${1:-}" != read ] || cat\n'
@@ -42,7 +42,6 @@ SOURCES = ("er_cli/src/lib.rt", "er_cli_tests/src/lib.rt", "event_reporter/src/m
 NEWER = "event_reporter: a source is newer than the program, which runs as it was built. To build it again: sh '{top}/scripts/build'\n"
 NO_TOOLCHAIN = "the toolchain (rt) is not on the PATH"
 TOOLS = "sh find head dirname readlink mkdir mv rm tail cat cut sha256sum python3".split()
-SECONDS = 60
 # what a screen gets at the end, so that reading it ends
 LAST = b"that was all"
 
@@ -90,7 +89,7 @@ class Checkout:
     def run(self, *words, called=None, has_toolchain=False, folder=None, given=""):
         line = [called or f"{self.top}/event_reporter", *words]
         ran = subprocess.run(
-            line, cwd=folder or self.room, env=self.path(has_toolchain), input=given, capture_output=True, text=True, timeout=SECONDS
+            line, cwd=folder or self.room, env=self.path(has_toolchain), input=given, capture_output=True, text=True, timeout=PATIENCE
         )
         return ran.returncode, ran.stdout, ran.stderr
 
@@ -98,7 +97,7 @@ class Checkout:
         """The same, where a person sees standard error."""
         screen, terminal = pty.openpty()
         ran = subprocess.run(
-            [f"{self.top}/event_reporter", *words], env=self.path(False), stdin=subprocess.DEVNULL, stdout=subprocess.PIPE, stderr=terminal, timeout=SECONDS
+            [f"{self.top}/event_reporter", *words], env=self.path(False), stdin=subprocess.DEVNULL, stdout=subprocess.PIPE, stderr=terminal, timeout=PATIENCE
         )
         os.write(terminal, LAST)
         said = b""
@@ -109,7 +108,7 @@ class Checkout:
         return ran.returncode, ran.stdout.decode(), said[: -len(LAST)].decode().replace("\r\n", "\n")
 
     def build(self):
-        ran = subprocess.run(["sh", f"{self.top}/scripts/build"], env=self.path(True), capture_output=True, text=True, timeout=SECONDS)
+        ran = subprocess.run(["sh", f"{self.top}/scripts/build"], env=self.path(True), capture_output=True, text=True, timeout=PATIENCE)
         return ran.returncode
 
     def date(self, name, seconds):
@@ -138,53 +137,53 @@ class Checkout:
         with open(f"{self.top}/{PROGRAM}", "rb") as it:
             return hashlib.sha256(it.read()).hexdigest()
 
-    def waits_for(self, is_so):
-        until = time.monotonic() + SECONDS
-        while not is_so() and time.monotonic() < until:
-            time.sleep(0.01)
-        return bool(is_so())
-
     def names(self):
         return sorted(
             os.path.relpath(os.path.join(folder, name), self.room) for folder, folders, names in os.walk(self.room) for name in (*folders, *names)
         )
 
 
-def in_checkout(tried, is_built=True):
-    with tempfile.TemporaryDirectory() as room:
-        tried(Checkout(os.path.realpath(room), is_built))
+@pytest.fixture
+def checkout(room):
+    """A checkout whose program is built."""
+    return Checkout(os.path.realpath(room))
 
 
-def runs_what_is_built(checkout):
+@pytest.fixture
+def unbuilt(room):
+    return Checkout(os.path.realpath(room), is_built=False)
+
+
+def test_it_runs_what_is_built(checkout):
     checkout.date_all()
     before = checkout.names()
     for has_toolchain in (False, True):
-        check("built", checkout.run("players", "a b", "", has_toolchain=has_toolchain), (0, "ran 3: players a b \n", ""))
+        assert checkout.run("players", "a b", "", has_toolchain=has_toolchain) == (0, "ran 3: players a b \n", ""), "built"
         refused = checkout.run("refused", has_toolchain=has_toolchain)
-        check("its status and its errors", refused, (1, "ran 1: refused\n", "refused 14 AlreadyReported\n"))
-    check("what it reads", checkout.run("read", given="enrol\tAna\n"), (0, "ran 1: read\nenrol\tAna\n", ""))
-    check("at a terminal", checkout.run_at_terminal("x"), (0, "ran 1: x\n", ""))
+        assert refused == (1, "ran 1: refused\n", "refused 14 AlreadyReported\n"), "its status and its errors"
+    assert checkout.run("read", given="enrol\tAna\n") == (0, "ran 1: read\nenrol\tAna\n", ""), "what it reads"
+    assert checkout.run_at_terminal("x") == (0, "ran 1: x\n", ""), "at a terminal"
     checkout.date("er_cli_tests/src/lib.rt", 60)
-    check("a test is no source of the program", checkout.run_at_terminal("x"), (0, "ran 1: x\n", ""))
-    check("nothing is left", checkout.names(), before)
+    assert checkout.run_at_terminal("x") == (0, "ran 1: x\n", ""), "a test is no source of the program"
+    assert checkout.names() == before, "nothing is left"
 
 
-def builds_nothing_by_itself(checkout):
+def test_it_builds_nothing_by_itself(checkout):
     checkout.date_all()
     checkout.date("er_cli/src/lib.rt", 60)
     before, said = checkout.names(), NEWER.format(top=checkout.top)
     for has_toolchain in (False, True):
-        check("newer sources", checkout.run("standings", has_toolchain=has_toolchain), (0, "ran 1: standings\n", ""))
+        assert checkout.run("standings", has_toolchain=has_toolchain) == (0, "ran 1: standings\n", ""), "newer sources"
         refused = checkout.run("refused", has_toolchain=has_toolchain)
-        check("newer sources, refused", refused, (1, "ran 1: refused\n", "refused 14 AlreadyReported\n"))
-    check("newer sources, at a terminal", checkout.run_at_terminal("standings"), (0, "ran 1: standings\n", said))
+        assert refused == (1, "ran 1: refused\n", "refused 14 AlreadyReported\n"), "newer sources, refused"
+    assert checkout.run_at_terminal("standings") == (0, "ran 1: standings\n", said), "newer sources, at a terminal"
     at_terminal = checkout.run_at_terminal("refused")
-    check("newer sources, refused at a terminal", at_terminal, (1, "ran 1: refused\n", f"{said}refused 14 AlreadyReported\n"))
-    check("newer sources: nothing was built", checkout.builds(), 0)
-    check("newer sources: nothing is left", checkout.names(), before)
+    assert at_terminal == (1, "ran 1: refused\n", f"{said}refused 14 AlreadyReported\n"), "newer sources, refused at a terminal"
+    assert checkout.builds() == 0, "newer sources: nothing was built"
+    assert checkout.names() == before, "newer sources: nothing is left"
 
 
-def follows_links(checkout):
+def test_it_follows_links(checkout):
     checkout.date_all()
     other = f"{checkout.room}/home/bin"
     os.makedirs(other)
@@ -194,98 +193,87 @@ def follows_links(checkout):
     os.symlink(checkout.top, f"{checkout.room}/home/folder")
     before = checkout.names()
     for called in (f"{other}/er", f"{other}/relative", f"{other}/twice", f"{checkout.room}/home/folder/event_reporter"):
-        check(f"through {os.path.basename(called)}", checkout.run("x", called=called), (0, "ran 1: x\n", ""))
-    check("from its folder", checkout.run("x", called="./er", folder=other), (0, "ran 1: x\n", ""))
+        assert checkout.run("x", called=called) == (0, "ran 1: x\n", ""), f"through {os.path.basename(called)}"
+    assert checkout.run("x", called="./er", folder=other) == (0, "ran 1: x\n", ""), "from its folder"
     on_path = {"PATH": f"{other}:{checkout.room}/bin"}
-    ran = subprocess.run(["sh", "-c", "er x"], cwd=checkout.room, env=on_path, capture_output=True, text=True, timeout=SECONDS)
-    check("by its name", (ran.returncode, ran.stdout, ran.stderr), (0, "ran 1: x\n", ""))
-    check("links: nothing is left", checkout.names(), before)
+    ran = subprocess.run(["sh", "-c", "er x"], cwd=checkout.room, env=on_path, capture_output=True, text=True, timeout=PATIENCE)
+    assert (ran.returncode, ran.stdout, ran.stderr) == (0, "ran 1: x\n", ""), "by its name"
+    assert checkout.names() == before, "links: nothing is left"
     os.unlink(f"{checkout.top}/{PROGRAM}")
     before = checkout.names()
     status, printed, said = checkout.run("x", called=f"{other}/er")
-    check("through a link, not built", (status, printed, NO_TOOLCHAIN in said, checkout.names()), (3, "", True, before))
+    assert (status, printed, NO_TOOLCHAIN in said, checkout.names()) == (3, "", True, before), "through a link, not built"
 
 
-def builds_before_the_first_run(checkout):
-    before = checkout.names()
-    status, printed, said = checkout.run("x")
-    check("not built, no toolchain", (status, printed, NO_TOOLCHAIN in said), (3, "", True))
-    check("not built: nothing is left", checkout.names(), before)
-    write(f"{checkout.top}/fails", "")
-    status, printed, said = checkout.run("x", has_toolchain=True)
-    check("a build that fails", (status, printed, "build.log.failed says why" in said), (3, "", True))
-    os.unlink(f"{checkout.top}/fails")
-    status, printed, said = checkout.run("x", has_toolchain=True)
-    check("not built, built first", (status, printed, "10 to 50 minutes" in said, checkout.builds()), (0, "new 1: x\n", True, 2))
-    check("and not again", (checkout.run("x", has_toolchain=True), checkout.builds()), ((0, "new 1: x\n", ""), 2))
+def test_it_builds_before_the_first_run(unbuilt):
+    before = unbuilt.names()
+    status, printed, said = unbuilt.run("x")
+    assert (status, printed, NO_TOOLCHAIN in said) == (3, "", True), "not built, no toolchain"
+    assert unbuilt.names() == before, "not built: nothing is left"
+    write(f"{unbuilt.top}/fails", "")
+    status, printed, said = unbuilt.run("x", has_toolchain=True)
+    assert (status, printed, "build.log.failed says why" in said) == (3, "", True), "a build that fails"
+    os.unlink(f"{unbuilt.top}/fails")
+    status, printed, said = unbuilt.run("x", has_toolchain=True)
+    assert (status, printed, "10 to 50 minutes" in said, unbuilt.builds()) == (0, "new 1: x\n", True, 2), "not built, built first"
+    assert (unbuilt.run("x", has_toolchain=True), unbuilt.builds()) == ((0, "new 1: x\n", ""), 2), "and not again"
 
 
-def keeps_the_old_program(checkout):
+def test_a_build_keeps_the_old_program(checkout):
     """While a new one is built, when that fails, and when it is stopped."""
     for how in ("fails", "breaks"):
         write(f"{checkout.top}/{how}", "")
-        check(f"a build that {how}", (checkout.build(), checkout.run("x")), (3, (0, "ran 1: x\n", "")))
+        assert (checkout.build(), checkout.run("x")) == (3, (0, "ran 1: x\n", "")), f"a build that {how}"
         os.unlink(f"{checkout.top}/{how}")
     for how in ("terminate", "kill"):
         write(f"{checkout.top}/{PROGRAM}", STAND_IN, 0o755)
         write(f"{checkout.top}/goes-on", "")
         count = checkout.builds()
         with subprocess.Popen(["sh", f"{checkout.top}/scripts/build"], env=checkout.path(True), stderr=subprocess.DEVNULL) as builder:
-            checkout.waits_for(lambda: checkout.builds() > count)
-            check("while it is built", checkout.run("x"), (0, "ran 1: x\n", ""))
+            assert comes(lambda: checkout.builds() > count), "begun"
+            assert checkout.run("x") == (0, "ran 1: x\n", ""), "while it is built"
             getattr(builder, how)()
             os.unlink(f"{checkout.top}/goes-on")
         # if only the script was ended, its build goes on to its end
-        check(f"after {how}", checkout.waits_for(lambda: checkout.run("x") == (0, "new 1: x\n", "")), True)
-    check("built after all that", (checkout.build(), checkout.run("x")), (0, (0, "new 1: x\n", "")))
+        assert comes(lambda: checkout.run("x") == (0, "new 1: x\n", "")), f"after {how}"
+    assert (checkout.build(), checkout.run("x")) == (0, (0, "new 1: x\n", "")), "built after all that"
     left = [name for name in checkout.names() if "event_reporter/out/" in name]
     folder = f"a checkout/{os.path.dirname(PROGRAM)}"
-    check("what is left", left, [f"{folder}/build.log", f"{folder}/event_reporter"])
-    check("the log names the program", checkout.log(), ["program", checkout.sum()])
+    assert left == [f"{folder}/build.log", f"{folder}/event_reporter"], "what is left"
+    assert checkout.log() == ["program", checkout.sum()], "the log names the program"
 
 
-def runs_the_first_program(checkout):
+def test_it_runs_the_first_program(unbuilt):
     """The first compiler's program runs as soon as it is there, and the last one's takes its place later, also when what ran first was stopped."""
-    write(f"{checkout.top}/compiles", "")
-    status, printed, said = checkout.run("x", has_toolchain=True)
-    check("the first program", (status, printed, "10 to 50 minutes" in said), (0, "first 1: x\n", True))
-    check("and again", checkout.run("x"), (0, "first 1: x\n", ""))
-    check("it has no log", checkout.log(), None)
-    os.unlink(f"{checkout.top}/compiles")
-    check("the last program", (checkout.waits_for(lambda: checkout.log()), checkout.run("x")), (True, (0, "new 1: x\n", "")))
-    check("its log", (checkout.log(), checkout.builds()), (["program", checkout.sum()], 1))
+    write(f"{unbuilt.top}/compiles", "")
+    status, printed, said = unbuilt.run("x", has_toolchain=True)
+    assert (status, printed, "10 to 50 minutes" in said) == (0, "first 1: x\n", True), "the first program"
+    assert unbuilt.run("x") == (0, "first 1: x\n", ""), "and again"
+    assert unbuilt.log() is None, "it has no log"
+    os.unlink(f"{unbuilt.top}/compiles")
+    assert (comes(unbuilt.log), unbuilt.run("x")) == (True, (0, "new 1: x\n", "")), "the last program"
+    assert (unbuilt.log(), unbuilt.builds()) == (["program", unbuilt.sum()], 1), "its log"
 
 
-def stops_with_what_started_it(checkout):
+def test_a_build_stops_with_what_started_it(unbuilt):
     """A build that was begun by the first run ends with it, if that is stopped before there is a program."""
-    write(f"{checkout.top}/goes-on", "")
+    write(f"{unbuilt.top}/goes-on", "")
     for number in (signal.SIGINT, signal.SIGTERM):
-        count = checkout.builds()
-        line = [f"{checkout.top}/event_reporter", "x"]
-        with subprocess.Popen(line, env=checkout.path(True), stderr=subprocess.DEVNULL, start_new_session=True) as first:
-            check("begun", checkout.waits_for(lambda: checkout.builds() > count), True)
+        count = unbuilt.builds()
+        line = [f"{unbuilt.top}/event_reporter", "x"]
+        with subprocess.Popen(line, env=unbuilt.path(True), stderr=subprocess.DEVNULL, start_new_session=True) as first:
+            assert comes(lambda: unbuilt.builds() > count), "begun"
             os.killpg(first.pid, number)
-            check(f"ended by {number.name}", first.wait(SECONDS) != 0, True)
+            assert first.wait(PATIENCE) != 0, f"ended by {number.name}"
         # the build gets its signal by way of others, and may be the last to end
-        check(f"its build, by {number.name}", checkout.waits_for(lambda: not is_running(checkout.builders()[-1])), True)
-    os.unlink(f"{checkout.top}/goes-on")
-    check("nothing was built", (os.path.exists(f"{checkout.top}/{PROGRAM}"), checkout.log()), (False, None))
+        assert comes(lambda: not is_running(unbuilt.builders()[-1])), f"its build, by {number.name}"
+    os.unlink(f"{unbuilt.top}/goes-on")
+    assert (os.path.exists(f"{unbuilt.top}/{PROGRAM}"), unbuilt.log()) == (False, None), "nothing was built"
 
 
-def says_that_it_is_alone(checkout):
+def test_it_says_that_it_is_alone(unbuilt):
     """The script, where somebody copied it to another place without the rest."""
-    shutil.copy(f"{checkout.top}/event_reporter", f"{checkout.room}/home")
-    before = checkout.names()
-    status, printed, said = checkout.run("x", called=f"{checkout.room}/home", has_toolchain=True)
-    check("alone", (status, printed, "not a checkout" in said, checkout.names()), (3, "", True, before))
-
-
-in_checkout(runs_what_is_built)
-in_checkout(builds_nothing_by_itself)
-in_checkout(follows_links)
-in_checkout(builds_before_the_first_run, is_built=False)
-in_checkout(keeps_the_old_program)
-in_checkout(runs_the_first_program, is_built=False)
-in_checkout(stops_with_what_started_it, is_built=False)
-in_checkout(says_that_it_is_alone)
-end("./event_reporter")
+    shutil.copy(f"{unbuilt.top}/event_reporter", f"{unbuilt.room}/home")
+    before = unbuilt.names()
+    status, printed, said = unbuilt.run("x", called=f"{unbuilt.room}/home", has_toolchain=True)
+    assert (status, printed, "not a checkout" in said, unbuilt.names()) == (3, "", True, before), "alone"
