@@ -17,8 +17,8 @@ import tempfile
 import threading
 import time
 
-from scripts.clients.event_files import run
 from scripts.clients.phone_rooms import SCORES, Gateway, address, copied_event, links, results, spread, targets
+from scripts.clients.program import Program
 from scripts.clients.proxies import Proxied, command_of
 from scripts.clients.random_evenings import STARTED, evening, laid, report_round
 from scripts.clients.tally import check, end, left_out
@@ -191,7 +191,7 @@ def behind(kind, file, room):
 def main(players):
     with tempfile.TemporaryDirectory() as room:
         base = third_round(room, players)
-        run(program, ["players", base])
+        Program(program).run("players", base)
         print(f"{players} players; load {os.getloadavg()[0]:.1f}")
         fresh = lambda name: copied_event(base, f"{room}/{name}.event")
         one_by_one("alone", fresh("alone"), 0)

@@ -2,10 +2,9 @@
 import os
 import shutil
 import sqlite3
-import subprocess
 import tempfile
 
-from scripts.clients.waiting import PATIENCE
+from scripts.clients.program import Program
 from scripts.models.plain_event import Event
 from scripts.models.plain_file import PLAYERS, tables_of
 from scripts.models.schema import TABLES
@@ -34,11 +33,6 @@ def by_sqlite(file, *statements):
         base.execute(statement).fetchall()
     base.close()
     return file
-
-
-def run(program, words, **how):
-    ran = subprocess.run([program, *words], stdin=subprocess.DEVNULL, capture_output=True, timeout=PATIENCE, **how)
-    return ran.returncode, ran.stdout, ran.stderr
 
 
 def as_nobody():
@@ -80,7 +74,7 @@ def make_four(program, file):
     """Has the program make an event of four players, whose first round is paired."""
     enrolments = [["enrol", file, f"P{it}"] for it in range(1, 5)]
     for words in [["init", file, "E", "3", "0"], *enrolments, ["start", file], ["pair", file, "1", "0" * 64]]:
-        run(program, words)
+        Program(program).run(*words)
 
 
 def event_of_four(version=2):

@@ -14,7 +14,7 @@ import threading
 import time
 
 from scripts import TOP
-from scripts.clients.event_files import run
+from scripts.clients.program import Program
 from scripts.clients.serving import free_port
 from scripts.clients.waiting import PATIENCE
 
@@ -40,14 +40,14 @@ def made(program, file, players=8, rounds=3, cut=0, results=()):
         it.writelines(f"{name}\n" for name in ["name", *(f"Player {number:03} of the House" for number in range(1, players + 1))])
     lines = [["init", file, "Friday", str(rounds), str(cut)], ["import", file, names], ["start", file], ["pair", file, "1", "0" * 64]]
     for words in [*lines, *(["result", file, "1", *map(str, it)] for it in results)]:
-        assert run(program, words)[0] == 0, f"{os.path.basename(file)}: {words[0]}"
+        assert Program(program).run(*words)[0] == 0, f"{os.path.basename(file)}: {words[0]}"
     return file
 
 
 def asked(program, words):
     """What a command line prints. Where what was just killed has the file for a moment, it is asked once more."""
     for _ in range(200):
-        status, text, errors = run(program, words)
+        status, text, errors = Program(program).run(*words)
         if errors != b"refused 25 Store\n":
             break
         time.sleep(0.05)

@@ -132,7 +132,7 @@ def unfilled(text):
 # ---- whole evenings
 
 
-class Evening:
+class TypedEvening:
     """An event that is played at the prompt, and the plain event beside it. The key of each round is the one in FILE.keys."""
 
     def __init__(self, file, send):

@@ -3,7 +3,8 @@ late, and odd numbers have byes. Each is also laid into a file.
 """
 import sqlite3
 
-from scripts.clients.event_files import rows_of, run
+from scripts.clients.event_files import rows_of
+from scripts.clients.program import Program
 from scripts.models.plain_event import FINISHED, PLAYOFF, Event
 from scripts.models.plain_file import tables_of
 from scripts.models.random_play import random_playoff_score, random_score
@@ -112,7 +113,7 @@ def play_bracket(dice, event, to_the_end):
 
 def laid(program, file, event, title):
     """The event's file: made by the program, and filled by SQL, since thousands of command lines would take long."""
-    assert run(program, ["init", file, title, str(event.rounds), str(event.cut)])[0] == 0
+    assert Program(program).run("init", file, title, str(event.rounds), str(event.cut))[0] == 0
     base = sqlite3.connect(file, isolation_level=None)
     base.execute("BEGIN")
     for table, rows in zip(tables_of(2), rows_of(event, title)):

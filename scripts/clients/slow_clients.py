@@ -21,7 +21,8 @@ import tempfile
 import threading
 import time
 
-from scripts.clients.event_files import copied, due, rows_alone, rows_of, rows_of_copy, run
+from scripts.clients.event_files import copied, due, rows_alone, rows_of, rows_of_copy
+from scripts.clients.program import Program
 from scripts.clients.serving import Serving, received, sent_to_the_end, sent_whole, served
 from scripts.clients.tally import check, end, left_out
 from scripts.models.plain_event import Event
@@ -52,7 +53,7 @@ def made(program, room):
         (["start", file], event.start()),
         (["pair", file, "1", "0" * 64], event.pair(1, bytes(32))),
     ):
-        check(f"the event, {words[0]}", run(program, words), due(answer))
+        check(f"the event, {words[0]}", Program(program).run(*words), due(answer))
     return file, event
 
 

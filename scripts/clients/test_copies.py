@@ -25,7 +25,7 @@ def test_copies(prompt, room, started):
     held = {it: open(f"{file}.copies/{it}", "rb").read() for it in copies}
     text = prompt.said(file, "back")
     check_said("back lists them", text, "   1  20", "before the pairing of round 1\n", "   2  20", "before the drop of P3 (3)\n", "   3  20", "before the pairing of round 2\n", "as: back 3")
-    check_said("no is no", unfilled(prompt.said(file, "back 2", "n")), f"That takes back: the pairing of round 2, 2 scores, 1 player who came, 1 drop. Go on from this copy?", "The event stays as it is.")
+    check_said("no is no", unfilled(prompt.said(file, "back 2", "n")), "That takes back: the pairing of round 2, 2 scores, 1 player who came, 1 drop. Go on from this copy?", "The event stays as it is.")
     assert rows_alone(file) == before, "no is no, the file"
     key = dict(keys_of(file))[2].hex()
     text = prompt.said(file, "back 2", "y")

@@ -20,7 +20,7 @@ MOST_CALLS = 70
 LINE = re.compile(r"(number|drawing|by|instead|after|mark|key) (.+)")
 
 
-class Evening:
+class DrawnEvening:
     def __init__(self, program, prompt, dice, room):
         self.program, self.prompt, self.dice = program, prompt, dice
         self.file, self.rounds, self.typed = f"{room}/e.event", dice.randint(1, 4), []
@@ -138,7 +138,7 @@ def prompt(program, extras):
 
 
 def test_an_honest_evening(program, prompt, dice, room, case, capsys):
-    evening = Evening(program, prompt, dice, room)
+    evening = DrawnEvening(program, prompt, dice, room)
     evening.play()
     status = event_check.main([evening.file])
     said = capsys.readouterr().out

@@ -12,7 +12,6 @@ import subprocess
 
 import pytest
 
-from scripts.clients.event_files import run
 from scripts.clients.phone_rooms import AT, PHONES, PYTHON, asked, codes_in, made, report_to, results, slips_for, targets
 from scripts.clients.program import LOSSY
 from scripts.clients.prompt import LETTERS, check_said
@@ -386,8 +385,8 @@ def test_other_file_in_place(program, room, pages_over):
     shutil.copy(f"{room}/e.event", other)
     for path, key in ((file, "1" * 64), (other, "2" * 64)):
         for table in range(1, 17):
-            assert run(program.path, ["result", path, "1", str(table), "2", "0", "0"])[0] == 0, "a result"
-        assert run(program.path, ["pair", path, "2", key])[0] == 0, "the second round"
+            assert program.run("result", path, "1", str(table), "2", "0", "0")[0] == 0, "a result"
+        assert program.run("pair", path, "2", key)[0] == 0, "the second round"
     pages = pages_over(file)
     aims = {table: pages.target(table) for table in range(1, 17)}
     # what was handed in before leaves nothing that is taken for granted

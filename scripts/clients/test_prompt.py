@@ -5,14 +5,14 @@ import sys
 
 import pytest
 
-from scripts.clients.prompt import LETTERS, Evening, check_said
+from scripts.clients.prompt import LETTERS, TypedEvening, check_said
 from scripts.models.plain_file import read
 
 
 def test_an_evening_through_a_pipe(prompt, room):
     file = f"{room}/friday.event"
     piped = prompt.piped(file)
-    played = Evening(file, piped.send)
+    played = TypedEvening(file, piped.send)
     played.enrol()
     played.play()
     assert piped.end() == 1, "the pipe ends"
@@ -24,7 +24,7 @@ def test_an_evening_through_a_terminal(prompt, room):
     file = f"{room}/friday.event"
     terminal = prompt.terminal(file)
     check_said("the beginning", terminal.began, "friday.event is new. Begin with", "init Friday 6 8", "desk> ")
-    played = Evening(file, terminal.send)
+    played = TypedEvening(file, terminal.send)
     played.enrol()
     terminal.keys("who Zo\t\r")
     check_said("a name is completed", terminal.read(), "who Zoë <b>", "4   Zoë <b>")

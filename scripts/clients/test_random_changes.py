@@ -38,7 +38,7 @@ class Answers:
         return False
 
 
-class Evening:
+class RandomEvening:
     """An event at the prompt. What it is, is what the plain reading reads from its file."""
 
     def __init__(self, program, extras, dice, room):
@@ -202,7 +202,7 @@ class Evening:
 @pytest.fixture
 def evening(program, extras, dice):
     with tempfile.TemporaryDirectory(dir=IN_MEMORY) as room:
-        it = Evening(program, extras, dice, room)
+        it = RandomEvening(program, extras, dice, room)
         it.begin()
         yield it
 

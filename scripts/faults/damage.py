@@ -18,7 +18,8 @@ import subprocess
 import sys
 import tempfile
 
-from scripts.clients.event_files import copied, due, make_old, rows_alone, rows_of, rows_of_copy, run, words_of
+from scripts.clients.event_files import copied, due, make_old, rows_alone, rows_of, rows_of_copy, words_of
+from scripts.clients.program import Program
 from scripts.clients.tally import check, dice_of, end
 from scripts.faults import damaged_bytes
 from scripts.faults import damaged_events
@@ -74,7 +75,7 @@ class Template:
         check("it has not closed", os.path.getsize(f"{self.logged}-wal") > HEAD + FRAME, True)
         for file in (self.closed, self.whole):
             copied(self.logged, os.path.dirname(file))
-        check("closed", run(program, ["players", self.closed]), due(self.event.players()))
+        check("closed", Program(program).run("players", self.closed), due(self.event.players()))
         check("rows of a closed file", rows_alone(self.closed), rows_of(self.event))
         base = sqlite3.connect(self.whole)
         base.execute("PRAGMA wal_checkpoint(TRUNCATE)").fetchall()
@@ -219,7 +220,7 @@ class Damages:
     def answers(self, file):
         """What the three readings are answered; nothing where one doesn't end."""
         try:
-            return tuple(run(self.program, [name, file]) for name in READINGS)
+            return tuple(Program(self.program).run(name, file) for name in READINGS)
         except subprocess.TimeoutExpired:
             return ()
 
@@ -237,7 +238,7 @@ class Damages:
         if event.version == 2:
             return None
         answer = due(["refused 25 Store"] if is_name_taken(file) else event.migrate())
-        got = run(self.program, ["migrate", file])
+        got = Program(self.program).run("migrate", file)
         if got != answer:
             return f"migrate: {got}, and not {answer}"
         found = plain_file.read(file)

@@ -14,7 +14,8 @@ import subprocess
 import sys
 import tempfile
 
-from scripts.clients.event_files import copied, due, make_old, run
+from scripts.clients.event_files import copied, due, make_old
+from scripts.clients.program import Program
 from scripts.clients.tally import check, end, left_out
 from scripts.faults.damage import bytes_in
 from scripts.models import plain_file
@@ -210,14 +211,14 @@ def made(example, room):
     rounds, cut, names, lines, writing = EXAMPLES[example]
     file, event = f"{room}/{example}/e.event", Event(rounds, cut)
     os.mkdir(os.path.dirname(file))
-    check(f"example {example}, init", run(program, ["init", file, "Friday", str(rounds), str(cut)]), due(["ok 0"]))
+    check(f"example {example}, init", Program(program).run("init", file, "Friday", str(rounds), str(cut)), due(["ok 0"]))
     for name in names:
-        check(f"example {example}, {name}", run(program, ["enrol", file, name]), due(event.enrol(name)))
+        check(f"example {example}, {name}", Program(program).run("enrol", file, name), due(event.enrol(name)))
     if lines is not None:
-        check(f"example {example}, start", run(program, ["start", file]), due(event.start()))
-        check(f"example {example}, pair", run(program, ["pair", file, "1", ZERO]), due(event.pair(1, bytes(32))))
+        check(f"example {example}, start", Program(program).run("start", file), due(event.start()))
+        check(f"example {example}, pair", Program(program).run("pair", file, "1", ZERO), due(event.pair(1, bytes(32))))
         for words in lines:
-            check(f"example {example}, {words}", run(program, with_file(words, file)), due(command(event, words)))
+            check(f"example {example}, {words}", Program(program).run(*with_file(words, file)), due(command(event, words)))
     return Good(file, event, writing)
 
 
@@ -229,7 +230,7 @@ def old_and_moved(example, new, room):
     for file in files:
         os.mkdir(os.path.dirname(file))
         make_old(file, event, name="Friday")
-    check(f"example {example}, migrate", run(program, ["migrate", files[1]]), due([f"ok {event.serial}"]))
+    check(f"example {example}, migrate", Program(program).run("migrate", files[1]), due([f"ok {event.serial}"]))
     return Good(files[0], event, new.writing), Good(files[1], new.event, new.writing)
 
 
@@ -248,10 +249,10 @@ def check_good(name, good):
     with tempfile.TemporaryDirectory() as room:
         check(f"{name}, read plainly", vars(plain_file.read(copied(good.file, room))), vars(good.event))
     for text in ("players", "standings"):
-        check(f"{name}, {text}", run(program, [text, good.file]), due(getattr(good.event, text)()))
+        check(f"{name}, {text}", Program(program).run(text, good.file), due(getattr(good.event, text)()))
     with tempfile.TemporaryDirectory() as room:
         answer = due(command(copy.deepcopy(good.event), good.writing))
-        check(f"{name}, {good.writing}", run(program, with_file(good.writing, copied(good.file, room))), answer)
+        check(f"{name}, {good.writing}", Program(program).run(*with_file(good.writing, copied(good.file, room))), answer)
 
 
 def by_python(file, sql):
@@ -281,7 +282,7 @@ def run_in_copy(name, how, sql, good, refusals):
         how(file, sql)
         before = bytes_in(room)
         for words in ("players", "standings", good.writing):
-            got = run(program, with_file(words, file))
+            got = Program(program).run(*with_file(words, file))
             check(f"{name}, {words}", got in refusals or got, True)
         check(f"{name}, the file stays, and no log is left", bytes_in(room) == before, True)
         return table_at_fault(file)
@@ -311,7 +312,7 @@ def run_lawful(what, sql, good):
         by_python(file, told_in(good, sql))
         event = plain_file.read(file)
         for text in ("players", "standings"):
-            check(f"{what}, {text}", run(program, [text, file]), due(getattr(event, text)()))
+            check(f"{what}, {text}", Program(program).run(text, file), due(getattr(event, text)()))
 
 
 def layouts_of(edit):

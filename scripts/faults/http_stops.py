@@ -9,7 +9,8 @@ import sys
 import tempfile
 import time
 
-from scripts.clients.event_files import due, make_old, rows_alone, rows_of, rows_of_copy, run, words_of
+from scripts.clients.event_files import due, make_old, rows_alone, rows_of, rows_of_copy, words_of
+from scripts.clients.program import Program
 from scripts.clients.serving import Serving, free_port, received, sent_whole
 from scripts.models.plain_event import Event
 from scripts.models.plain_http import served as served_plainly
@@ -28,7 +29,7 @@ class Stops:
         print(f"seed {self.seed}, event {self.events}, stop {self.stops}, {what}: {got!r}, and not {want!r}", file=sys.stderr)
 
     def line(self, line, answer):
-        got = run(self.program, words_of(line, self.file))
+        got = Program(self.program).run(*words_of(line, self.file))
         if got != due(answer):
             self.complain(repr(line), got, due(answer))
 

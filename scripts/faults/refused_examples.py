@@ -11,7 +11,8 @@ import subprocess
 import sys
 import tempfile
 
-from scripts.clients.event_files import copied, due, make_old, rows_of, rows_of_copy, run
+from scripts.clients.event_files import copied, due, make_old, rows_of, rows_of_copy
+from scripts.clients.program import Program
 from scripts.clients.serving import Serving, served
 from scripts.faults.refused_file_memory import MEMORY, Line, write_lists
 from scripts.faults.refused_http_memory import REQUESTS, SLIP, Request
@@ -140,7 +141,7 @@ class Examples:
                 answer = due(["ok 0"]) if line.startswith("init") else answer_of(event, line)
                 if self.is_new(taken, line):
                     self.run_line(file, line, answer, event)
-                got = run(self.program, self.words(file, line))
+                got = Program(self.program).run(*self.words(file, line))
                 assert got == answer, (number, line, got)
                 taken += (line,) if answer[1].startswith((b"ok ", b"added ")) else ()
 
@@ -153,7 +154,7 @@ class Examples:
                 answer = answer_of(event, line)
                 if line == "migrate":
                     self.run_line(file, line, answer, event)
-                got = run(self.program, self.words(file, line))
+                got = Program(self.program).run(*self.words(file, line))
                 assert got == answer, (number, line, got)
 
     def words(self, file, line):
@@ -173,9 +174,9 @@ class Examples:
         """The file of an event, and the event."""
         file, event = f"{room}/e.event", Event(rounds, cut)
         write_lists(room, NAMES)
-        run(self.program, ["init", file, NAME, str(rounds), str(cut)])
+        Program(self.program).run("init", file, NAME, str(rounds), str(cut))
         for line in lines:
-            got, answer = run(self.program, self.words(file, line)), answer_of(event, line)
+            got, answer = Program(self.program).run(*self.words(file, line)), answer_of(event, line)
             assert got == answer, (line, got, answer)
         return file, event
 

@@ -30,9 +30,9 @@ from scripts.clients.event_files import (
     rows_alone,
     rows_left,
     rows_of,
-    run,
     words_of,
 )
+from scripts.clients.program import Program
 from scripts.faults.stopping import STOPS, calls_of, meddling, ways
 from scripts.models.plain_event import Event
 from scripts.models.random_play import random_event, version_of
@@ -57,7 +57,7 @@ class Calls:
 
     def meddled(self, words, nth, how=""):
         """A command line with this call meddled with: its status, output and errors."""
-        return run(self.program, words, env=meddling(self.library, nth, how))
+        return Program(self.program).run(*words, env=meddling(self.library, nth, how))
 
     def calls(self, line):
         """The calls that the command line makes."""
@@ -86,11 +86,11 @@ class Calls:
             if rows not in self.lawful(answer, after, call, how).get(got, []):
                 return False, f"answered {got}, and the file holds {rows}"
             held = after if rows == after.rows else self.before
-            shown = run(self.program, ["standings", file])
+            shown = Program(self.program).run("standings", file)
             if shown != held.standings:
                 return False, f"standings are {shown}"
             if held is not after or line == "migrate":
-                again = run(self.program, words)
+                again = Program(self.program).run(*words)
                 if again != due(answer):
                     return False, f"sent again: {again}"
             if rows_alone(file) != after.rows:
@@ -120,7 +120,7 @@ class Calls:
             self.refused += is_refused
             if fault:
                 self.wrong.append(f"{line!r}, {call}, {how}: {fault}; before {self.before.rows}, after {after.rows}")
-        got = run(self.program, words_of(line, self.file))
+        got = Program(self.program).run(*words_of(line, self.file))
         if got != due(answer) or rows_alone(self.file) != after.rows:
             self.wrong.append(f"{line!r}: {got}, and not {due(answer)}, and the file alone holds {rows_alone(self.file)}")
         self.lines, self.before = self.lines + 1, after

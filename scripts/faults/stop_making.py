@@ -7,7 +7,8 @@ import shutil
 import sys
 import tempfile
 
-from scripts.clients.event_files import due, run
+from scripts.clients.event_files import due
+from scripts.clients.program import Program
 from scripts.clients.tally import check, end
 from scripts.faults.stopping import calls_of, meddling
 
@@ -22,7 +23,7 @@ class Making:
         self.name = "an empty file" if is_there else "a new file"
 
     def init(self, file, **how):
-        return run(self.program, ["init", file, "E", "3", "0"], **how)
+        return Program(self.program).run("init", file, "E", "3", "0", **how)
 
     def begun(self, room, nth, how=""):
         """The file, and what `init` is answered with this call meddled with."""

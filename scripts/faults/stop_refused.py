@@ -8,7 +8,8 @@ import os
 import sys
 import tempfile
 
-from scripts.clients.event_files import by_sqlite, copied, due, event_of_four, make_four, make_old, run
+from scripts.clients.event_files import by_sqlite, copied, due, event_of_four, make_four, make_old
+from scripts.clients.program import Program
 from scripts.faults.stopping import STOPS, calls_of, meddling, ways
 
 INIT, PLAYERS, MIGRATE = ("init", "E", "3", "0"), ("players",), ("migrate",)
@@ -48,7 +49,7 @@ class Refused:
 
     def run(self, file, words, **how):
         name, *rest = words
-        return run(self.program, [name, file, *rest], **how)
+        return Program(self.program).run(name, file, *rest, **how)
 
     def calls(self):
         with tempfile.TemporaryDirectory() as room:

@@ -12,7 +12,8 @@ import signal
 import sys
 import tempfile
 
-from scripts.clients.event_files import copied, due, event_of_four, make_four, rows_alone, rows_of, rows_of_copy, run
+from scripts.clients.event_files import copied, due, event_of_four, make_four, rows_alone, rows_of, rows_of_copy
+from scripts.clients.program import Program
 from scripts.clients.serving import Serving, hear_interrupts, served
 from scripts.faults.stopping import STOPS, calls_of, meddling, ways
 from scripts.models.plain_http import refusal, served as served_plainly
@@ -55,7 +56,7 @@ class Meddling:
 
     def rest(self, file, event):
         """What was wrong with the command that comes next, and with the file alone behind it."""
-        shown = run(self.program, ["players", file]), run(self.program, ["standings", file])
+        shown = Program(self.program).run("players", file), Program(self.program).run("standings", file)
         if shown != (due(event.players()), due(event.standings())):
             return f"{shown}"
         return None if rows_alone(file) == rows_of(event) else f"the file alone holds {rows_alone(file)}"

@@ -1,8 +1,8 @@
 """A program with one of the calls meddled with by which it changes a file (stop_nth.c): how it is run, and which calls there are."""
 import collections
 import os
+from scripts.clients.program import Program
 
-from scripts.clients.event_files import run
 
 STOPS, FAULTS = ("before", "half"), ("EIO", "ENOSPC")
 # one call by its number; whether it writes, whether an answer or the end comes next, and whether no answer comes any more
@@ -30,5 +30,5 @@ def ways(calls):
 
 def run_unclosed(program, library, words):
     """The output and the errors of a command line that is stopped behind its answer, before it closes its file: the log keeps all that it has."""
-    _, out, err = run(program, words, env=meddling(library, 1, "unclosed"))
+    _, out, err = Program(program).run(*words, env=meddling(library, 1, "unclosed"))
     return out, err

@@ -10,7 +10,8 @@ import sys
 import tempfile
 import time
 
-from scripts.clients.event_files import due, has_begun_old, rows_alone, rows_left, rows_of, run, words_of
+from scripts.clients.event_files import due, has_begun_old, rows_alone, rows_left, rows_of, words_of
+from scripts.clients.program import Program
 from scripts.models.random_play import random_event, version_of
 
 
@@ -55,7 +56,7 @@ class Stops:
         return [due(event.players()), due(event.standings()), due(event.bracket())]
 
     def shown(self):
-        return [run(self.program, [name, self.file]) for name in ("players", "standings", "bracket")]
+        return [Program(self.program).run(name, self.file) for name in ("players", "standings", "bracket")]
 
     def play(self, line, answer, event):
         words, after, texts = words_of(line, self.file), rows_of(event), self.texts_of(event)
@@ -81,7 +82,7 @@ class Stops:
             if is_after and after != self.before:
                 break
         if rows_left(self.file, self.before) != after:
-            got = run(self.program, words)
+            got = Program(self.program).run(*words)
             if got != due(answer):
                 self.complain(line, f"{got}, and not {due(answer)}")
         self.before, self.texts = copy.deepcopy(after), texts
