@@ -7,7 +7,7 @@ from __future__ import annotations
 import re
 from dataclasses import dataclass, replace
 
-from companions.files import write_whole
+from companions.files import kept_text, write_whole
 from companions.lists import Match, Rounds
 from companions.score import Score
 
@@ -34,11 +34,7 @@ class Doubts:
         self.path = f"{file}.doubts"
 
     def all(self) -> list[Doubt]:
-        try:
-            with open(self.path, encoding="utf-8", errors="replace") as doubts:
-                lines = LINE.findall(doubts.read())
-        except FileNotFoundError:
-            return []
+        lines = LINE.findall(kept_text(self.path))
         return sorted({Doubt(int(number), int(table), Score.parse(score)) for number, table, score in lines})
 
     def standing(self, rounds: Rounds) -> list[Doubt]:

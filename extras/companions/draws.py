@@ -26,7 +26,7 @@ from companions.draw import (
     rule_of,
     text_of,
 )
-from companions.files import copy_folder_synced, move, replace_synced, sync_folder
+from companions.files import copy_folder_synced, kept_text, move, replace_synced, sync_folder
 from companions.lists import Matches, players_of, rounds_of
 from companions.program import Declined
 
@@ -132,11 +132,7 @@ class Draws:
         return [Kept(match[2], match[3] or NONE) for match in found]
 
     def numbers_text(self) -> str:
-        try:
-            with open(self.numbers_path, encoding="ascii", errors="replace") as kept:
-                return kept.read()
-        except FileNotFoundError:
-            return ""
+        return kept_text(self.numbers_path)
 
     def keep_number(self, number: int, kept: Kept) -> None:
         """It is on the disk when this returns. A line that was broken off before it is made no number's."""

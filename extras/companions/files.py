@@ -27,6 +27,15 @@ def sync_folder(folder: str) -> None:
             os.close(handle)
 
 
+def kept_text(path: str) -> str:
+    """What a file beside the event has, or nothing if it isn't there."""
+    try:
+        with open(path, encoding="utf-8", errors="replace") as kept:
+            return kept.read()
+    except FileNotFoundError:
+        return ""
+
+
 def write_whole(path: str, text: str) -> None:
     """What has the name is the old text or the new one. Without a text the file goes."""
     beside = f"{path}.part"

@@ -7,7 +7,7 @@ import os
 import re
 from typing import Optional
 
-from companions.files import sync_folder
+from companions.files import kept_text, sync_folder
 
 LINE = re.compile(r"^round (\d+) ([0-9A-Fa-f]{64})( unused)?$", re.M)
 
@@ -17,11 +17,7 @@ class Keys:
         self.path = f"{file}.keys"
 
     def text(self) -> str:
-        try:
-            with open(self.path, encoding="utf-8", errors="replace") as keys:
-                return keys.read()
-        except FileNotFoundError:
-            return ""
+        return kept_text(self.path)
 
     def append(self, number: int, key: str) -> None:
         self.write(f"round {number} {key}\n")

@@ -12,7 +12,7 @@ import sys
 import tempfile
 
 from scripts.clients.event_files import copied, due, event_of_four, make_old, rows_alone, rows_of, rows_of_copy
-from scripts.faults.refusing import no_cause_no_fault, refusing
+from scripts.faults.refusing import chosen_growths, no_cause_no_fault, refusing
 from scripts.models.plain_log import without_salts
 
 LAST = 150
@@ -140,8 +140,8 @@ def main(program, library, stride):
     # a command line waits for the disk most of the time
     with tempfile.TemporaryDirectory() as room, concurrent.futures.ThreadPoolExecutor(len(os.sched_getaffinity(0))) as pool:
         for it in lines_of(program, library, room):
-            tried = sorted({*range(1, it.count + 1, stride), *range(max(1, it.count - LAST + 1), it.count + 1)})
-            growths, wrong = growths + len(tried), wrong + it.faults(pool.map, tried)
+            chosen = chosen_growths(1, it.count, stride, LAST)
+            growths, wrong = growths + len(chosen), wrong + it.faults(pool.map, chosen)
     print("\n".join(wrong), file=sys.stderr, end="\n" if wrong else "")
     print(f"refused memory in a file: {growths} growths, each refused once")
     print(f"{growths - len(wrong)} passed, {len(wrong)} failed")

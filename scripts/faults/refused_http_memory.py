@@ -12,7 +12,7 @@ import tempfile
 
 from scripts.clients.event_files import copied, event_of_four, make_four, rows_of, rows_of_copy
 from scripts.clients.serving import Serving, served
-from scripts.faults.refusing import no_cause_no_fault, refusing
+from scripts.faults.refusing import chosen_growths, no_cause_no_fault, refusing
 from scripts.models.plain_http import refusal, served as served_plainly
 
 LAST = 60
@@ -82,9 +82,9 @@ def main(program, library, stride):
         make_four(program, template)
         for sent in REQUESTS:
             it = Request(program, library, template, event_of_four(), sent)
-            tried = sorted({*range(it.first, it.last + 1, stride), *range(max(it.first, it.last - LAST + 1), it.last + 1)})
-            told, faults = it.faults(pool.map, tried)
-            count, wanting, wrong = count + len(tried), wanting + told, wrong + faults
+            chosen = chosen_growths(it.first, it.last, stride, LAST)
+            told, faults = it.faults(pool.map, chosen)
+            count, wanting, wrong = count + len(chosen), wanting + told, wrong + faults
     print("\n".join(wrong), file=sys.stderr, end="\n" if wrong else "")
     print(f"refused memory while it serves: {count} growths, each refused once, and {wanting} answers that say so")
     print(f"{count - len(wrong)} passed, {len(wrong)} failed")

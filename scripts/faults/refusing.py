@@ -9,6 +9,11 @@ def refusing(library, nth):
     return {**os.environ, "LD_PRELOAD": library, "REFUSE_NTH": str(nth)}
 
 
+def chosen_growths(first, last, stride, of_the_last):
+    """One growth in so many, and each of the last ones."""
+    return sorted({*range(first, last + 1, stride), *range(max(first, last - of_the_last + 1), last + 1)})
+
+
 def no_cause_no_fault(answers):
     """Whether none of these answers says that memory or the store was at fault. It is asked of commands in which nothing was refused, on a desk
     that needs no reopening.
