@@ -6,6 +6,7 @@ import contextlib
 import ctypes
 import logging
 import re
+import socket
 import threading
 import time
 import urllib.parse
@@ -27,6 +28,8 @@ from companions.troubles import ENDED, Troubles
 
 THREADS, THREADS_OF_THE_DESK = MOST_WAITING + 32, 4
 MOST_CONNECTIONS, MOST_CONNECTIONS_OF_ONE = 700, 24
+# so many are kept for those who come: silent ones make room
+CONNECTIONS_KEPT_FREE = 20
 # a connection ends that sends nothing for so long, and one that sends no whole request in so long
 SECONDS_OF_SILENCE, SECONDS_OF_A_CONNECTION, SECONDS_BETWEEN_SWEEPS = 10, 40, 2
 # proxies keep connections, caddy for two minutes: one that ends here first would fail the next guest
@@ -88,6 +91,35 @@ def strict_channel(now: Callable[[], float]) -> Any:
     return StrictChannel
 
 
+def is_silent(channel: Any) -> bool:
+    """Whether somebody waits for no answer: none is made or has still to be sent, and nothing has come that was
+    not read yet.
+    """
+    if channel.requests or channel.total_outbufs_len:
+        return False
+    try:
+        return not channel.socket.recv(1, socket.MSG_PEEK | socket.MSG_DONTWAIT)
+    except BlockingIOError:
+        return True
+    except OSError:
+        # nobody is there any more
+        return True
+
+
+def make_room(server: Any) -> None:
+    """Shuts out silent ones if few connections are left: those who have begun no request first, and of them
+    who has been silent longest.
+    """
+    most = server.adj.connection_limit - CONNECTIONS_KEPT_FREE
+    channels = [channel for channel in server.active_channels.values() if not channel.will_close]
+    too_many = len(server._map) - (len(server.active_channels) - len(channels)) - most
+    if too_many <= 0:
+        return
+    silent = sorted(filter(is_silent, channels), key=lambda it: (it.request is not None, it.since))
+    for channel in silent[:too_many]:
+        channel.will_close = True
+
+
 def shut_out_after(server: Any, seconds: float, now: Callable[[], float]) -> None:
     """Shuts out who has sent no whole request for so long, however slowly the bytes come, and nobody who
     waits for an answer. The thread that reads does so: meanwhile no request becomes whole.
@@ -96,6 +128,7 @@ def shut_out_after(server: Any, seconds: float, now: Callable[[], float]) -> Non
 
     def readable() -> Any:
         nonlocal due
+        make_room(server)
         if now() >= due:
             due = now() + SECONDS_BETWEEN_SWEEPS
             for channel in server.active_channels.values():
@@ -112,6 +145,7 @@ def server_of(
     threads: int,
     behind_proxy: bool,
     now: Callable[[], float] = time.monotonic,
+    most: int = MOST_CONNECTIONS,
 ) -> Any:
     """Now: the seconds of a clock that nobody sets."""
     import waitress
@@ -127,7 +161,7 @@ def server_of(
         pages,
         sockets=[door],
         threads=threads,
-        connection_limit=MOST_CONNECTIONS,
+        connection_limit=most,
         channel_timeout=SECONDS_OF_SILENCE_OF_A_PROXY if behind_proxy else SECONDS_OF_SILENCE,
         cleanup_interval=5,
         max_request_header_size=MOST_HEAD,
