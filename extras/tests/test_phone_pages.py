@@ -988,6 +988,12 @@ def test_requests_that_are_turned_down(room, what, how, status):
     assert len(room.queue.asked) == (status == 303)
 
 
+def test_who_comes_by_another_address_reads_which_is_right(room):
+    for language, told in (("en", f"It is {AT}"), ("de", f"Sie ist {AT}")):
+        page = check_page(room.ask("GET", "/", HTTP_HOST="evil.example", HTTP_ACCEPT_LANGUAGE=language))
+        assert told in page.root.text()
+
+
 @pytest.mark.parametrize(
     "body",
     [
@@ -1012,7 +1018,8 @@ def test_the_scorekeepers_page_is_asked_by_this_machine_alone(room):
     desk = room.desk
     assert room.desk_page().status == 200
     for host in (HOST, "rebound.example:8081", "localhost", ""):
-        assert room.ask("GET", "/", pages=desk, HTTP_HOST=host).status == 421
+        refused = room.ask("GET", "/", pages=desk, HTTP_HOST=host)
+        assert (refused.status, "It is http://127.0.0.1:8081/" in refused.text, AT in refused.text) == (421, True, False)
     for method, target in (("POST", "/"), ("GET", "/board"), ("GET", room.target(1))):
         assert room.ask(method, target, "s=2-0-0", pages=desk, HTTP_HOST="127.0.0.1:8081").status == 404
     assert room.desk_page().page().root.of("form") == []

@@ -92,8 +92,9 @@ def is_gzip_taken(accepted: str) -> bool:
 class Pages:
     """What phones and scorekeeper share: requests taken apart, and answers put together."""
 
-    def __init__(self, hosts: set[str]):
-        self.hosts = hosts
+    def __init__(self, hosts: set[str], at: str):
+        """At: the address that is right, for those who come by another one."""
+        self.hosts, self.at = hosts, at
 
     def __call__(self, environ: Environ, start_response: Callable[..., object]) -> Iterable[bytes]:
         language = language_for(environ.get("HTTP_ACCEPT_LANGUAGE", ""))
@@ -125,7 +126,7 @@ class Pages:
     def taken_apart(self, environ: Environ, language: str) -> Asked:
         method = environ["REQUEST_METHOD"]
         if environ.get("HTTP_HOST", "").lower() not in self.hosts:
-            raise Settled(self.told(421, language, "not_this_address"))
+            raise Settled(self.told(421, language, "not_this_address", "this_address"))
         if method not in ("GET", "HEAD", "POST"):
             raise Settled(Reply(405, b"", [("Allow", "GET, HEAD, POST")], "text/plain"))
         query, form = fields_of(environ.get("QUERY_STRING", "")), self.form(environ, language)
@@ -147,16 +148,16 @@ class Pages:
     def told(self, status: int, language: str, *keys: str) -> Reply:
         """What is said in place of a page."""
         more = [("Retry-After", "60")] if status == 429 else []
-        return Reply(status, page_told(language, keys), more)
+        return Reply(status, page_told(language, keys, self.at), more)
 
     def reply(self, asked: Asked) -> Reply:
         raise NotImplementedError
 
 
 @lru_cache(maxsize=None)
-def page_told(language: str, keys: tuple[str, ...]) -> bytes:
+def page_told(language: str, keys: tuple[str, ...], at: str) -> bytes:
     """Made once, so that to refuse takes nothing."""
-    return rendered("told.html", language, heading=plain_in(language, "scores"), clock="", keys=keys)
+    return rendered("told.html", language, heading=plain_in(language, "scores"), clock="", keys=keys, at=at)
 
 
 def hosts_of(at: str, port: int) -> set[str]:

@@ -48,7 +48,7 @@ class Row:
 
 class Desk(Pages):
     def __init__(self, cache: EventCache, reports: Reports, site: Site, hosts: set[str]):
-        super().__init__(hosts)
+        super().__init__(hosts, f"http://{min(hosts)}/")
         self.cache, self.reports, self.site = cache, reports, site
 
     def reply(self, asked: Asked) -> Reply:

@@ -118,7 +118,7 @@ class Site(Pages):
         share: float = 1.0,
     ):
         """Share: how many phones stand behind one address, beside one guest alone."""
-        super().__init__(hosts)
+        super().__init__(hosts, secret.at)
         self.cache, self.reports, self.secret, self.queue = cache, reports, secret, queue
         most, seconds = REQUESTS_OF_ONE
         self.requests = OriginBuckets(most * share, seconds / share)

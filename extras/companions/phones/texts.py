@@ -152,6 +152,7 @@ ENGLISH: Table = {
     "not_understood": "That was not understood.",
     "no_page": "There is no such page.",
     "not_this_address": "This is not the address on the slip.",
+    "this_address": "It is {at}",
     "another_site": "This came from another site.",
     "went_wrong": "That went wrong here. Hand the score in on paper.",
 }
@@ -291,6 +292,7 @@ GERMAN: Table = {
     "not_understood": "Das war nicht zu verstehen.",
     "no_page": "Diese Seite gibt es nicht.",
     "not_this_address": "Das ist nicht die Adresse auf dem Zettel.",
+    "this_address": "Sie ist {at}",
     "another_site": "Das kam von einer anderen Seite.",
     "went_wrong": "Hier ging etwas schief. Gebt das Ergebnis auf Papier ab.",
 }
