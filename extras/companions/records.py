@@ -4,6 +4,7 @@ from __future__ import annotations
 from dataclasses import dataclass
 from typing import Iterator, Optional
 
+from companions.event import Event
 from companions.lists import Match, Rounds
 from companions.working import DRAWN, WON, is_complete, seen_by
 
@@ -40,6 +41,11 @@ def records_of(rounds: Rounds, counted: Optional[int] = None) -> dict[int, Recor
                 found[number] = record.after(match, number) if counts else record
         complete += counts
     return found
+
+
+def records_now(event: Event) -> dict[int, Record]:
+    """Those of the standings, once a round is complete."""
+    return records_of(event.rounds) if event.complete_rounds() else {}
 
 
 def seats_of(match: Match) -> Iterator[int]:

@@ -181,6 +181,15 @@ def check_headers(reply, is_own=False):
     assert not any("\n" in value or "\r" in value for value in reply.headers.values())
 
 
+def points_due(event):
+    """Each name in the pairings, with the points with which the player goes into the round, once there are any."""
+    for _, *row in plain_page.table_rows(event, len(event.stored)):
+        cells = row[:-1]
+        for number, _, *points in (cells[: len(cells) // 2], cells[len(cells) // 2 :]):
+            if number:
+                yield " ".join([event.names[int(number) - 1], *[f"{it} Pts" for it in points]])
+
+
 # ---- what is shown
 
 
@@ -196,8 +205,8 @@ def test_pages_of_an_event_with_names_of_all_kinds(tmp_path, dice, way):
         [cell.text() for cell in row.of("td")] for row in room.ask("GET", "/standings").page().root.of("tr")
     ][1:]
     due = [
-        [rank, shown + (" dropped" if is_out else ""), points, " ".join(shares)]
-        for rank, _, shown, is_out, points, *shares in plain_page.standings_due(event)
+        [rank, " ".join([shown, *[record] * bool(record), *["dropped"] * bool(is_out)]), points, " ".join(shares)]
+        for rank, _, shown, is_out, record, points, *shares in plain_page.ranks_due(event)
     ]
     assert rows == due
     if event.stored:
@@ -207,6 +216,8 @@ def test_pages_of_an_event_with_names_of_all_kinds(tmp_path, dice, way):
         assert sorted(row.of("bdi")[0].text() for row in page.root.of("tr")[1:]) == sorted(
             event.names[number - 1] for number in names
         )
+        shown = {cell.text() for row in page.root.of("tr")[1:] for cell in row.of("td")[1:]}
+        assert shown - {""} == set(points_due(event))
         for match in [match for match in newest if not match.is_bye][:3]:
             check_page(
                 room.ask("GET", room.target(match.place)),
@@ -630,8 +641,9 @@ def test_a_link_shows_the_own_table_and_both_records(tmp_path):
         first_round = next(it for it in event.stored[0] if number in it[:2])
         met = event.names[first_round[1 if first_round[0] == number else 0] - 1]
         assert rows_of_table(page, 0) == [["1", met, "2-1" if number in won else "1-2", "3" if number in won else "0"]]
-        standings = [[rank, shown, points, " ".join(shares)] for rank, _, shown, _, points, *shares in plain_page.standings_due(event)]
-        at = next(at for at, line in enumerate(standings) if line[1] == event.names[number - 1])
+        ranks = plain_page.ranks_due(event)
+        standings = [[rank, f"{shown} {record}", points, " ".join(shares)] for rank, _, shown, _, record, points, *shares in ranks]
+        at = next(at for at, line in enumerate(ranks) if line[1] == str(number))
         assert rows_of_table(page, 1) == standings[max(0, at - 2) : at + 3]
 
 

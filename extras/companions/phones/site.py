@@ -54,8 +54,10 @@ from companions.reports import (
     half_said,
     judge_call,
 )
+from companions.records import records_now
 from companions.rosters import tidy
 from companions.score import Score
+from companions.sheets.parts import records_before
 from companions.working import part_shown, share_shown, working_of
 
 MOST_FOUND = 20
@@ -249,7 +251,10 @@ class Site(Pages):
         text = text_of_round(snapshot.event, snapshot.number)
         has_draw = rule_of_event(self.cache.file) is not None
         drawn = drawn_shown(text, language) if rows else ""
-        return self.page("pairings.html", language, rows=rows, drawn=drawn, has_draw=has_draw).body
+        records = records_before(snapshot.event, snapshot.number)
+        return self.page(
+            "pairings.html", language, rows=rows, drawn=drawn, has_draw=has_draw, records=records
+        ).body
 
     def who(self, asked: Asked, number: int) -> Reply:
         """A player's own page: how the tiebreakers come about."""
@@ -293,8 +298,9 @@ class Site(Pages):
         return Reply(200, data, kind="text/plain; charset=utf-8")
 
     def standings(self, snapshot: Snapshot, language: str) -> bytes:
-        rows, number = snapshot.standings, snapshot.event.complete_rounds()
-        return self.page("standings.html", language, rows=rows, number=number).body
+        number = snapshot.event.complete_rounds()
+        rows, records = snapshot.standings, records_now(snapshot.event)
+        return self.page("standings.html", language, rows=rows, number=number, records=records).body
 
     def board(self, snapshot: Snapshot, _language: str) -> bytes:
         """The board of the sheets. It reloads itself, and shows all its parts."""
@@ -405,6 +411,7 @@ class Site(Pages):
     ) -> Reply:
         me = me_of(snapshot, player.number)
         words: dict[str, Any] = {"me": self.secret.link(player), "own": me, "is_moved": is_moved}
+        words["records"] = records_now(snapshot.event)
         words.update(seconds=0 if is_still else SECONDS_TO_RELOAD, is_still=is_still)
         words.update(at=None, state="", call=None)
         if me.match and not me.match.is_bye and not me.is_playoff:
