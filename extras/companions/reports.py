@@ -14,6 +14,8 @@ from companions.score import Score
 # the program took it; it was stored already; another score was stored; it waits for the other seat; and the
 # scorekeeper has looked at the table
 STORED, SAME, OTHER, WAITS, SETTLED = "stored", "same", "other", "waits", "settled"
+# what is stored is wrong, and which score is right was not said
+WRONG = "wrong"
 # no score was said, but who goes home after the round, or that this is taken back
 HOME, STAYS = "home", "stays"
 # a judge is called to the table; none is needed any more; and one has been there
@@ -38,6 +40,10 @@ class Report:
     origin: str
     drops: tuple[int, ...] = ()
     seat: int = 0
+
+    @property
+    def said(self) -> str:
+        return WRONG if self.outcome == WRONG else self.score.short
 
     @property
     def has_to_stay(self) -> bool:
@@ -169,7 +175,8 @@ class Reports:
 
 def settle(reports: Reports, number: int, match: Match) -> None:
     """The scorekeeper has stored a score, whatever the phones said before."""
-    if match.score and any(report.outcome in (OTHER, WAITS) for report in reports.of_match(number, match)):
+    said = {report.outcome for report in reports.of_match(number, match)}
+    if match.score and said & {OTHER, WAITS, WRONG}:
         reports.add(Report(time.strftime(TIME), number, *match.seats, match.score, SETTLED, match.score, "the prompt"))
 
 
@@ -178,11 +185,23 @@ def settle(reports: Reports, number: int, match: Match) -> None:
 
 @dataclass(frozen=True)
 class TwoScores:
-    """A table at which a phone says what isn't stored, the newest such report last."""
+    """A table at which a phone says what isn't stored, or that what is stored is wrong, the newest such report
+    last.
+    """
 
     match: Match
     stored: Score
     said: tuple[Report, ...]
+
+    @property
+    def told(self) -> str:
+        newest = self.said[-1]
+        said = "that it is wrong" if newest.outcome == WRONG else newest.score.short
+        return f"{self.head} at table {self.match.place}: stored is {self.stored.short}, and a phone says {said}"
+
+    @property
+    def head(self) -> str:
+        return "A wrong score" if self.said[-1].outcome == WRONG else "Two scores"
 
 
 def two_scores(reports: Reports, number: int, matches: Matches) -> list[TwoScores]:
@@ -191,7 +210,7 @@ def two_scores(reports: Reports, number: int, matches: Matches) -> list[TwoScore
         said = tuple(
             report
             for report in last_words(reports.of_match(number, match))
-            if report.outcome in (OTHER, WAITS) and report.score != match.score
+            if report.outcome in ((WRONG,) if report.score == match.score else (OTHER, WAITS))
         )
         if match.score and not match.is_bye and said:
             found.append(TwoScores(match, match.score, said))
@@ -202,7 +221,7 @@ def last_words(said: list[Report]) -> list[Report]:
     """What counts of what was said: of a seat the newest, since it may mend its own score. Who said what by
     the code of a table isn't known, so that all of it counts.
     """
-    scores = [report for report in said if report.outcome in (STORED, SAME, OTHER, WAITS)]
+    scores = [report for report in said if report.outcome in (STORED, SAME, OTHER, WAITS, WRONG)]
     newest = {report.seat: report for report in scores}
     return [report for report in scores if not report.seat or report is newest[report.seat]]
 
@@ -276,3 +295,10 @@ def words_to_store(number: int, match: Match, score: Score) -> str:
     """The line to type at the prompt."""
     line = f"{match.place} {score.typed}"
     return f"fix {number} {line}" if match.score else line
+
+
+def words_to_mend(number: int, match: Match, report: Report) -> str:
+    """The same of what a phone said, which may be without a score."""
+    if report.outcome == WRONG:
+        return f"fix {number} {match.place} X Y"
+    return words_to_store(number, match, report.score)

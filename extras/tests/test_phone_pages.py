@@ -25,7 +25,7 @@ from companions.phones.site import Site, outcome_of
 from companions.phones.texts import ENGLISH, GERMAN
 from companions.notes import Notes
 from companions.plan import Plan
-from companions.reports import OTHER, STORED, Reports, judge_call
+from companions.reports import OTHER, STORED, WRONG, Reports, judge_call
 from companions.score import Score
 from from_model import FromModel
 from scripts.clients.random_evenings import COMPLETE, ENDED, ENROLLING, HOSTILE, IN_PLAYOFF, OPEN, STARTED, evening
@@ -50,7 +50,7 @@ class Told:
     def __init__(self):
         self.asked, self.answers = [], {}
 
-    def report(self, number, table, games, seats):
+    def report(self, number, table, games, seats, phone):
         self.asked.append((number, table, games))
         answer = self.answers.get(table, Answer(serial=1))
         if answer is NotNow:
@@ -324,7 +324,7 @@ def test_one_address_asks_for_the_board_now_and_then(room, monkeypatch):
 
 def test_each_page_has_a_title_of_its_own(room):
     target = room.target(1)
-    pages = ["/", "/pairings", "/standings", target, f"{target}?s=2-0-0", room.target(2)]
+    pages = ["/", "/pairings", "/standings", target, f"{target}?s=2-0-0", room.target(2), "/none", f"{target}?s=9"]
     titles = [room.ask("GET", page).page().root.of("title")[0].text() for page in pages]
     room.hand_in(1, "2-0-0")
     titles.append(room.ask("GET", target).page().root.of("title")[0].text())
@@ -399,6 +399,71 @@ def test_a_different_score_is_told_and_shown(room):
     assert "fix 1 1 0 2 0" in room.desk_page().text
     assert room.ask("GET", f"{room.target(1)}?wrong=1").text.count('name="s"') == 6
     assert [report.outcome for report in room.reports.all] == ["stored", "same", "other"]
+
+
+def test_a_browser_that_goes_back_sees_that_the_score_is_in(room):
+    """In place of the question whether to hand it in; another score stands beside the one that is stored."""
+    target = room.target(1)
+    room.hand_in(1, "2-1-0")
+    page = check_page(room.ask("GET", f"{target}?s=2-1-0"))
+    assert ENGLISH["is_in"] in page.root.text() and ENGLISH["hand_it_in"] not in page.root.text()
+    for query in ("s=0-2-0", "wrong=1&s=0-2-0"):
+        page = check_page(room.ask("GET", f"{target}?{query}"))
+        assert ENGLISH["is_in"] in page.root.text() and ENGLISH["hand_it_in"] in page.root.text()
+        assert [node.text() for node in page.root.of("dd")] == ["2", "1", "0", "2"]
+    assert room.reports.all[-1].outcome == STORED
+
+
+def test_a_seat_that_goes_back_sees_that_its_score_waits(tmp_path, dice):
+    event = evening(dice, 4, STARTED, 3, 0)
+    event.pair(1, bytes(32))
+    room = Room(tmp_path, event, asks_both=True)
+    target = room.target(1, 1)
+    room.hand_in(1, "2-1-0", 1)
+    page = check_page(room.ask("GET", f"{target}?s=2-1-0"))
+    assert ENGLISH["waits"] in page.root.text() and ENGLISH["hand_it_in"] not in page.root.text()
+    # the right one is a tap away, and takes its place
+    assert [node.attributes["value"] for node in page.root.of("button") if node.attributes.get("name") == "s"][2] == "0-2-0"
+    assert ENGLISH["hand_it_in"] in room.ask("GET", f"{target}?wrong=1&s=0-2-0").text
+    room.hand_in(1, "0-2-0", 1)
+    assert room.hand_in(1, "0-2-0", 2).status == 303 and room.queue.asked == [(1, 1, (0, 2, 0))]
+
+
+@pytest.mark.parametrize("is_own", [False, True])
+def test_one_tap_tells_the_scorekeeper_that_it_is_wrong(room, is_own):
+    match = room.cache.now.match(1, 1)
+    page, target = (room.link(match.first), room.place(match.first)) if is_own else (room.target(1), room.target(1))
+    room.hand_in(1, "2-1-0")
+    buttons = [node for node in room.ask("GET", page).page().root.of("button") if node.attributes.get("name") == "wrong"]
+    assert [node.text() for node in buttons] == [ENGLISH["this_is_wrong"]]
+    reply = room.ask("POST", target, "wrong=1")
+    assert (reply.status, reply.location) == (303, f"{target}?wrong=1")
+    told = room.ask("GET", reply.location)
+    assert ENGLISH["go_there"] in told.text and told.text.count('name="s"') == 6
+    assert room.queue.asked == [(1, 1, (2, 1, 0))]
+    assert [(it.outcome, it.score, it.stored) for it in room.reports.all[1:]] == [(WRONG, (2, 1, 0), (2, 1, 0))]
+    assert "fix 1 1 X Y" in room.desk_page().text and "wrong (" in room.desk_page().text
+    check_page(room.desk_page())
+    # which one is right may be said too
+    room.queue.answers[1] = Answer(refused=14, stored=Score(2, 1))
+    room.ask("POST", target, "s=0-2-0")
+    assert "fix 1 1 0 2 0" in room.desk_page().text
+
+
+def test_what_is_not_stored_is_not_wrong(room):
+    assert room.ask("POST", room.target(1), "wrong=1").status == 400
+    assert room.reports.all == []
+
+
+def test_what_is_wrong_is_not_said_to_be_told_if_nobody_can_be_told(room, monkeypatch):
+    room.hand_in(1, "2-1-0")
+
+    def full(_):
+        raise OSError(28, "No space left on device")
+
+    monkeypatch.setattr(room.reports, "append", full)
+    assert room.ask("POST", room.target(1), "wrong=1").status == 503
+    assert room.reports.unwritten == []
 
 
 def test_two_scores_need_what_is_stored(room):

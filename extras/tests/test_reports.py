@@ -12,10 +12,12 @@ from companions.reports import (
     HOME,
     NO_SCORE,
     OTHER,
+    SAME,
     SETTLED,
     STAYS,
     STORED,
     WAITS,
+    WRONG,
     GoingHome,
     Report,
     Reports,
@@ -26,6 +28,7 @@ from companions.reports import (
     judged,
     settle,
     two_scores,
+    words_to_mend,
     words_to_store,
 )
 from companions.score import Score
@@ -138,6 +141,26 @@ def test_a_table_has_two_scores_until_it_is_settled(kept):
     assert len(two_scores(kept, 3, [STORED_AT_9])) == 1
 
 
+def test_a_stored_score_is_said_to_be_wrong_until_it_is_settled(kept):
+    """Which one is right may be said later; of a seat the newest word counts."""
+    kept.add(report(WRONG, Score(2, 1), seat=1))
+    (found,) = two_scores(kept, 3, [STORED_AT_9])
+    assert found.told == "A wrong score at table 9: stored is 2-1, and a phone says that it is wrong"
+    assert words_to_mend(3, STORED_AT_9, found.said[-1]) == "fix 3 9 X Y"
+    kept.add(report(OTHER, seat=1))
+    (found,) = two_scores(kept, 3, [STORED_AT_9])
+    assert found.told == "Two scores at table 9: stored is 2-1, and a phone says 0-2"
+    assert words_to_mend(3, STORED_AT_9, found.said[-1]) == "fix 3 9 0 2 0"
+    kept.add(report(WRONG, Score(2, 1), seat=1))
+    settle(kept, 3, STORED_AT_9)
+    assert two_scores(kept, 3, [STORED_AT_9]) == []
+    # another window has replaced it since, or it is right after all
+    kept.add(report(WRONG, Score(2, 1), seat=1))
+    assert two_scores(kept, 3, [Match(9, 1, 2, Score(1, 2))]) == []
+    kept.add(report(SAME, Score(2, 1), seat=1))
+    assert two_scores(kept, 3, [STORED_AT_9]) == []
+
+
 def test_what_others_said_at_the_table_does_not_count(kept):
     for other in (report(first=3), report(second=4), report(table=8), report(round=2), report(STORED)):
         kept.add(other)
@@ -209,6 +232,7 @@ def test_what_the_prompt_tells():
         report(STAYS, table=11, drops=(2,)),
         report(CALLS, table=11, seat=2),
         report("calls off", table=11),
+        report(WRONG, Score(2, 1)),
     ]
     assert lines_of(came, PLAYERS) == [
         "From phones: 4 scores, tables 4, 7, 8, 11",
@@ -217,6 +241,7 @@ def test_what_the_prompt_tells():
         "Table 11: P2 (2) stays after all",
         "Table 11: P2 (2) calls a judge, 20:14. Once one has been there: judge 11",
         "Table 11: no judge is needed any more",
+        "Table 9: a phone says that the stored 2-1 is wrong. If so: fix 3 9 X Y",
     ]
     assert lines_of([report(WAITS, Score(2, 0), seat=2, stored=None)], {}) == [
         "Table 9: player 2 says 2-0. The other seat is to say it."

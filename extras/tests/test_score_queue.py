@@ -150,6 +150,53 @@ def test_seats_that_cannot_be_read_are_asked_again(tables):
     assert tables.report(1, 1, Score(2, 0), (1, 2)).is_taken and len(failed) == 1
 
 
+class Held(Program):
+    """A program whose file another one holds until it is free."""
+
+    def __init__(self):
+        super().__init__()
+        self.is_free = False
+
+    def ask(self, *words):
+        if not self.is_free:
+            self.asked.append("held")
+            raise Refused(25, "Store")
+        return super().ask(*words)
+
+
+@pytest.mark.parametrize("phone, stored", [("10.0.0.7 1", "0-2-0"), ("10.0.0.7 2", "2-0-0"), ("10.0.0.8 1", "2-0-0")])
+def test_a_phone_replaces_what_it_said_while_that_still_waits(kept, within_seconds, phone, stored):
+    """And nobody else does: then the first one goes first, as ever."""
+    kept.source, told = Held(), {}
+
+    def hand_in(score, phone):
+        try:
+            told[score] = kept.report(1, 1, Score.parse(score), (1, 2), phone)
+        except NotNow:
+            told[score] = None
+
+    kept.seats.at = lambda *_: (1, 2)
+    threads = [threading.Thread(target=hand_in, args=it) for it in (("2-0-0", "10.0.0.7 1"), ("0-2-0", phone))]
+    threads[0].start()
+    assert within_seconds(lambda: kept.source.asked)
+    threads[1].start()
+    # the first one has its answer, or both wait
+    assert within_seconds(lambda: "2-0-0" in told or len(kept.waiting) == 2)
+    assert within_seconds(lambda: ("2-0-0" in told) == (stored == "0-2-0"))
+    kept.source.is_free = True
+    for thread in threads:
+        thread.join(60)
+    sent = ["-".join(words[3:]) for words in kept.source.asked if words != "held"]
+    assert (sent[0], sent.count("2-0-0")) == (stored, int(stored == "2-0-0"))
+    assert told["0-2-0"].is_taken and (told["2-0-0"] is None) == (stored == "0-2-0")
+    assert kept.waiting == []
+
+
+def test_the_same_score_again_replaces_nothing(kept):
+    kept.source = Program()
+    assert [kept.report(1, 1, Score(2, 0), None, "a").is_taken for _ in range(2)] == [True, True]
+
+
 def test_nobody_waits_for_ever(kept, monkeypatch):
     monkeypatch.setattr(module, "SECONDS_FOR_A_SCORE", 0.2)
     kept.source = Program(*[Refused(25, "Store")] * 1000)

@@ -9,7 +9,7 @@ from companions.codes import FIRST_SEAT, SECOND_SEAT
 from companions.lists import Match, Player
 from companions.phones.asked import Asked, Fields
 from companions.phones.cache import Snapshot
-from companions.reports import CALLS, CALLS_OFF, HOME, STAYS
+from companions.reports import CALLS, CALLS_OFF, HOME, STAYS, WRONG
 
 
 @dataclass(frozen=True)
@@ -102,10 +102,12 @@ def drops_in(form: Fields, speaks_for: tuple[int, ...]) -> tuple[int, ...]:
 
 
 def said_in(at: AtTable) -> tuple[()] | tuple[str, tuple[int, ...]]:
-    """What is said without a score: that somebody goes home, or stays after all; and on a player's own page
-    that a judge is to come, or need not.
+    """What is said without a score: that the stored one is wrong; that somebody goes home, or stays after all;
+    and on a player's own page that a judge is to come, or need not.
     """
     form = at.asked.form
+    if form.get(WRONG) == "1" and at.match.score:
+        return WRONG, ()
     for outcome in (HOME, STAYS):
         if form.get(outcome, "") in map(str, at.speaks_for):
             return outcome, (int(form[outcome]),)

@@ -25,6 +25,7 @@ from companions.reports import (
     going_home,
     judge_calls,
     two_scores,
+    words_to_mend,
     words_to_store,
 )
 from companions.score import Score
@@ -115,10 +116,8 @@ class Desk(Pages):
         rows = []
         for found in two_scores(self.reports, number, self.cache.now.newest):
             match, newest = found.match, found.said[-1]
-            said = ", ".join(
-                f"{report.score.short} ({report.at[11:16]})" for report in found.said[-4:]
-            )
-            words = words_to_store(number, match, newest.score)
+            said = ", ".join(f"{report.said} ({report.at[11:16]})" for report in found.said[-4:])
+            words = words_to_mend(number, match, newest)
             rows.append(Row(match.place, self.players(match), found.stored, said, words))
         return rows
 
@@ -140,6 +139,6 @@ class Desk(Pages):
         for report in reversed(self.reports.of_round(number)[-MOST_LATEST:]):
             match = Match(report.table, report.first, report.second)
             has_score = report.outcome not in (HOME, STAYS, CALLS, CALLS_OFF, JUDGED)
-            said = report.score.short if has_score else ""
+            said = report.said if has_score else ""
             rows.append(Row(report.table, self.players(match), report.stored, said, "", report))
         return rows

@@ -69,7 +69,7 @@ class Answer:
         return self.serial >= 0
 
 
-@dataclass
+@dataclass(eq=False)
 class Waiting:
     """A score that waits for its answer. After `until` nobody waits for it any more. It is of these two
     players: where the scorekeeper puts another file in place, others may sit at the table.
@@ -80,12 +80,19 @@ class Waiting:
     score: Score
     seats: Optional[tuple[int, int]]
     until: float
+    # by which address and seat it came
+    phone: str = ""
     answer: Optional[Answer] = None
     is_done: threading.Event = field(default_factory=threading.Event)
 
     @property
     def is_wanted(self) -> bool:
         return not self.answer and time.monotonic() < self.until
+
+    def replaces(self, other: Waiting) -> bool:
+        """Whether it is what the same phone says of the same match now."""
+        of_match = (self.number, self.table, self.seats) == (other.number, other.table, other.seats)
+        return of_match and bool(self.phone) and self.phone == other.phone and self.score != other.score
 
     def end(self, answer: Optional[Answer]) -> None:
         self.answer = answer
@@ -139,18 +146,35 @@ class ScoreQueue:
         self.seats = Seats(self.source)
         self.ends_with_us = list(ENDS_WITH_US) if shutil.which("setpriv") else []
         self.line: queue.Queue[Waiting] = queue.Queue(MOST_WAITING)
+        # those whose phones wait for an answer
+        self.waiting: list[Waiting] = []
+        self.lock = threading.Lock()
         (running or Running()).begin("hands in scores", self.go_on)
 
     def report(
-        self, number: int, table: int, score: Score, seats: Optional[tuple[int, int]] = None
+        self,
+        number: int,
+        table: int,
+        score: Score,
+        seats: Optional[tuple[int, int]] = None,
+        phone: str = "",
     ) -> Answer:
-        """The program's answer. NotNow: whether it is stored isn't known, and it may be handed in again."""
-        waiting = Waiting(number, table, score, seats, time.monotonic() + SECONDS_FOR_A_SCORE)
+        """The program's answer. NotNow: whether it is stored isn't known, and it may be handed in again. What the
+        same phone said before, and which still waits, is not sent any more.
+        """
+        waiting = Waiting(number, table, score, seats, time.monotonic() + SECONDS_FOR_A_SCORE, phone)
+        with self.lock:
+            for other in filter(waiting.replaces, self.waiting):
+                other.until = 0.0
+            self.waiting.append(waiting)
         try:
             self.line.put_nowait(waiting)
+            waiting.is_done.wait(SECONDS_FOR_A_SCORE + 1)
         except queue.Full:
             raise NotNow from None
-        waiting.is_done.wait(SECONDS_FOR_A_SCORE + 1)
+        finally:
+            with self.lock:
+                self.waiting.remove(waiting)
         if not waiting.answer:
             raise NotNow
         return waiting.answer

@@ -47,6 +47,7 @@ from companions.reports import (
     STORED,
     TIME,
     WAITS,
+    WRONG,
     Full,
     Report,
     Reports,
@@ -427,8 +428,11 @@ class Site(Pages):
         said = half_said(self.reports, at.number, at.match) if self.secret.asks_both else {}
         if at.seat in said:
             return {"state": "waits", **self.half_words(at, said)}
+        return {"state": "open", **self.both(at)}
+
+    def both(self, at: AtTable) -> dict[str, Player]:
         players = at.snapshot.players
-        return {"state": "open", "first": players[at.match.first], "second": players[at.match.second]}
+        return {"first": players[at.match.first], "second": players[at.match.second]}
 
     def reloaded(self, reply: Reply) -> Reply:
         """A page that reloads itself: what has not changed is said in a hundred bytes."""
@@ -459,32 +463,32 @@ class Site(Pages):
             return self.shown_again(at, "over.html", score=self.with_names(at, match.score), rows=rows)
         is_wrong = query.get("wrong") == "1"
         score = score_in(query)
-        if score:
-            return self.look_once_more(at, score)
-        if "x" in query or "s" in query:
+        if not score and ("x" in query or "s" in query):
             return self.told(400, at.asked.language, "not_understood")
-        if match.score and not is_wrong:
+        # a browser that goes back asks whether to hand in what is in already
+        if match.score and not is_wrong and score in (None, match.score):
             return self.stored(at, match.score)
         said = half_said(self.reports, at.number, match) if self.asks_both(at) else {}
-        if at.seat in said and not is_wrong:
+        if at.seat in said and not is_wrong and score in (None, said[at.seat].score):
             return self.waits(at, said)
-        return self.buttons(at, is_wrong)
+        return self.look_once_more(at, score) if score else self.buttons(at, is_wrong)
 
     def buttons(self, at: AtTable, is_wrong: bool = False, no_match: bool = False) -> Reply:
-        players = at.snapshot.players
+        outcomes = {report.outcome for report in self.reports.of_match(at.number, at.match)}
         return self.shown(
             at,
             "table.html",
             409 if no_match else 200,
-            first=players[at.match.first],
-            second=players[at.match.second],
             is_wrong=is_wrong,
+            is_told=WRONG in outcomes,
             no_match=no_match,
+            **self.both(at),
         )
 
     def look_once_more(self, at: AtTable, score: Score, is_late: bool = False) -> Reply:
         back = at.target + ("?wrong=1" if at.match.score or at.seat else "")
-        words = {"score": self.with_names(at, score), "back": back, "is_late": is_late}
+        stored = self.with_names(at, at.match.score) if at.match.score else None
+        words = {"score": self.with_names(at, score), "stored": stored, "back": back, "is_late": is_late}
         return self.shown(at, "look.html", 503 if is_late else 200, **words)
 
     def stored(self, at: AtTable, score: Score) -> Reply:
@@ -499,7 +503,8 @@ class Site(Pages):
     def half_words(self, at: AtTable, said: dict[int, Report]) -> dict[str, Any]:
         mine, other = said[at.seat], said.get(SECOND_SEAT if at.seat == FIRST_SEAT else FIRST_SEAT)
         differs = self.with_names(at, other.score) if other and other.score != mine.score else None
-        return {"score": self.with_names(at, mine.score), "other": differs, "opponent": at.opponent}
+        words = {"score": self.with_names(at, mine.score), "other": differs, "opponent": at.opponent}
+        return {**words, **self.both(at)}
 
     def asks_both(self, at: AtTable) -> bool:
         """Whether the other seat has to say the same."""
@@ -528,11 +533,13 @@ class Site(Pages):
         """Kept for the scorekeeper, who drops the player or doesn't, or sends a judge."""
         if at.number < at.snapshot.number:
             return self.told(409, at.asked.language, "round_is_over")
+        is_wrong = outcome == WRONG
+        score = at.match.score or NO_SCORE
         try:
-            self.keep(at, NO_SCORE, outcome, drops=drops)
+            self.keep(at, score if is_wrong else NO_SCORE, outcome, score if is_wrong else None, drops)
         except NotNow:
             return self.told(503, at.asked.language, "not_yet", "not_yet_why")
-        return Reply(303, b"", [("Location", at.done)])
+        return Reply(303, b"", [("Location", f"{at.target}?wrong=1" if is_wrong else at.done)])
 
     def has_to_wait(self, at: AtTable, score: Score) -> bool:
         """Whether the other seat doesn't say the same. What this one says is kept then."""
@@ -545,7 +552,8 @@ class Site(Pages):
 
     def answered(self, at: AtTable, score: Score) -> Reply:
         """What the program says of it. What it took is stored, also where no report of it can be written."""
-        answer = self.queue.report(at.number, at.match.place, score, at.seats)
+        phone = f"{at.asked.origin} {at.seat}"
+        answer = self.queue.report(at.number, at.match.place, score, at.seats, phone)
         is_reported = answer.refused == Refusal.ALREADY_REPORTED
         stored = score if answer.is_taken else answer.stored or self.stored_score(at, is_reported)
         outcome = outcome_of(answer, stored, score)
@@ -571,7 +579,7 @@ class Site(Pages):
         when, drops = time.strftime(TIME), drops or drops_in(at.asked.form, at.speaks_for)
         report = Report(when, at.number, *at.match.seats, score, outcome, stored, at.asked.origin, drops, at.seat)
         # nothing but the report says it
-        says_alone = outcome in (WAITS, HOME, STAYS, CALLS, CALLS_OFF)
+        says_alone = outcome in (WAITS, WRONG, HOME, STAYS, CALLS, CALLS_OFF)
         try:
             self.reports.add(report)
         except OSError as fault:

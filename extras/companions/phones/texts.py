@@ -92,6 +92,8 @@ ENGLISH: Table = {
     "is_in": "The score is in.",
     "show_it": "Show it to your opponent.",
     "this_is_wrong": "This is wrong",
+    "or_this_one": "If that is wrong, tap the right one:",
+    "now_you_say": "You say now:",
     # a player's own page
     "my_page": "My page",
     "against": "against",
@@ -236,6 +238,8 @@ GERMAN: Table = {
     "is_in": "Das Ergebnis ist gespeichert.",
     "show_it": "Zeig es deinem Gegner.",
     "this_is_wrong": "Das stimmt nicht",
+    "or_this_one": "Stimmt das nicht, tippe das richtige an:",
+    "now_you_say": "Du meldest jetzt:",
     "my_page": "Meine Seite",
     "against": "gegen",
     "record": "{record}, {points} Pkt",

@@ -20,7 +20,9 @@ from companions.reports import (
     STAYS,
     STORED,
     WAITS,
+    WRONG,
     Report,
+    words_to_mend,
     words_to_store,
 )
 from companions.troubles import ENDED, Told, kept_troubles
@@ -194,6 +196,10 @@ def lines_of(came: Iterable[Report], players: Players) -> list[str]:
                 f"Table {report.table}: stored is {report.stored.short}, and a phone says "
                 f"{report.score.short}. If that is right: {words}"
             )
+        if report.outcome == WRONG and report.stored:
+            words = words_to_mend(report.round, match, report)
+            stored = f"Table {report.table}: a phone says that the stored {report.stored.short} is wrong"
+            told.append(f"{stored}. If so: {words}")
         if report.outcome == WAITS:
             who = name_of(report.first if report.seat == FIRST_SEAT else report.second, players)
             told.append(

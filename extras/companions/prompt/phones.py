@@ -11,6 +11,7 @@ from companions.prompt.lines import numbers_in
 from companions.prompt.news import home_said, judge_said
 from companions.prompt.session import Session, tables_named
 from companions.reports import (
+    WRONG,
     HalfSaid,
     TwoScores,
     all_half_said,
@@ -19,6 +20,7 @@ from companions.reports import (
     judge_calls,
     judged,
     two_scores,
+    words_to_mend,
     words_to_store,
 )
 from companions.troubles import kept_troubles
@@ -100,10 +102,10 @@ class Phones:
 
     def contradiction(self, number: int, found: TwoScores) -> list[str]:
         match, said = found.match, found.said[-1]
+        once = "Once the right one is known" if said.outcome == WRONG else "If that is right"
         return [
-            f"Two scores at table {match.place}: {self.session.event.shown(match)}",
-            f"  at {said.at[11:16]} a phone said {said.score.short}. If that is right: "
-            f"{words_to_store(number, match, said.score)}",
+            f"{found.head} at table {match.place}: {self.session.event.shown(match)}",
+            f"  at {said.at[11:16]} a phone said {said.said}. {once}: {words_to_mend(number, match, said)}",
             f"  if what is stored is right, type it again: {words_to_store(number, match, found.stored)}",
         ]
 

@@ -348,9 +348,7 @@ class Session:
             in_doubt = [f"table {doubt.table} of round {doubt.number} ({doubt.score})" for doubt in doubts]
             self.say_filled(f"In doubt: {', '.join(in_doubt)}.")
         for found in twice:
-            said = found.said[-1].score.short
-            shown = f"stored is {found.stored.short}, and a phone says {said}"
-            self.say_filled(f"Two scores at table {found.match.place}: {shown}. See: phones")
+            self.say_filled(f"{found.told}. See: phones")
         return self.lines.says_yes(f"{what} all the same?")
 
     # ---- sending
