@@ -87,7 +87,10 @@ def test_prompt(prompt, program, room):
     assert ("Two scores" in said, said.count("wants to go home")) == (False, 1), "it is settled"
     report_to(program.path, file, 1, "1-2-0", "other", "2-1-0")
     assert not ("Two scores" in prompt.said(file, "fix 1 1 2", "phones")), "the other score settles it too"
-    prompt.said(file, "pair", *(f"{table} 2 0" for table in range(1, 4)))
+    report_to(program.path, file, 1, "1-2-0", "wrong", "1-2-0")
+    said = prompt.said(file, "phones", "pair", "n")
+    check_said("a wrong score", said, "A wrong score at table 1", "a phone said wrong. Once the right one is known: fix 1 1 X Y", "type it again: fix 1 1 1 2 0", "Pair all the same?", "Nothing was paired.")
+    prompt.said(file, "fix 1 2 1", "pair", *(f"{table} 2 0" for table in range(1, 4)))
     report_to(program.path, file, 1, "0-2-0", "other", "2-0-0", number=2)
     check_said("cut asks back", prompt.said(file, "cut", "n"), "Two scores at table 1", "Cut all the same?", "The playoff was not begun.")
 

@@ -249,7 +249,8 @@ class Play:
         other = next(it for it in SCORES if it != scores[table])
         phone = self.phones[0]
         phone.go(f"http://127.0.0.1:{gateway.port}{self.target_of_other(codes, table)}")
-        phone.tap("p a.button")
+        phone.tap("button[name=wrong]")
+        assert "The scorekeeper has been told" in phone.text(), f"round {number}, that it is wrong is told"
         phone.tap(f"button[value='{other}']")
         phone.tap("button.act")
         assert "Stored is another score." in phone.text(), f"round {number}, another score is told"
