@@ -1,12 +1,21 @@
 """The scorekeeper's prompt over the program as it is built: a whole evening to the champion through a pipe and through a terminal, each beside the plain
 reading of the rules; completion, history, menus and Ctrl-C.
 """
+import os
+import re
+import subprocess
 import sys
 
 import pytest
 
+from scripts import TOP
 from scripts.clients.prompt import LETTERS, TypedEvening, check_said
+from scripts.clients.waiting import PATIENCE
 from scripts.models.plain_file import read
+
+# the evening that README shows, whose lines are typed behind a prompt
+EVENING = re.compile(r"(?<=^```\n\$ event-desk friday\.event\n)(.*?)(?=^```)", re.M | re.S)
+TYPED = re.compile(r"((?:desk|r\d|playoff)> )(.*)")
 
 
 def test_an_evening_through_a_pipe(prompt, room):
@@ -75,3 +84,70 @@ def test_menus(prompt, started):
     assert terminal.end()[0] == 0, "the end"
     event = read(file)
     assert (event.dropped, [score for _, _, score in event.stored[0]]) == (set(), [(2, 0, 0), (2, 1, 0)]), "the file"
+
+
+class ShownEvening:
+    """An evening as README shows it. What it leaves out is played too: each other table ends 2-0, and the first die of a round is its number."""
+
+    def __init__(self, terminal, file):
+        self.terminal, self.file, self.said, self.line, self.shown, self.typed = terminal, file, terminal.began, "", [], 0
+
+    def check(self, *pieces):
+        """What the line before was answered."""
+        check_said(self.line, self.said.replace(f"{os.path.dirname(self.file)}/", ""), *self.shown, *pieces)
+        self.shown = []
+
+    def type(self, line):
+        self.said = self.terminal.send(line.replace("examples/", f"{TOP}/examples/"))
+
+    def read(self, line):
+        """A line of README."""
+        found = TYPED.fullmatch(line)
+        if found:
+            self.check()
+            self.go_on_to(found[2])
+            assert self.said.endswith(found[1])
+            self.line, self.typed = found[2], self.typed + 1
+            if self.line != "quit":
+                self.type(self.line)
+        elif line.endswith("(y or n) y"):
+            self.check(line[:-1])
+            self.type("y")
+        elif line == "(Here come the other scores, and five rounds more.)":
+            self.check()
+            self.play_on()
+        elif line != "..":
+            self.shown.append(f"{line}\n")
+
+    def go_on_to(self, line):
+        if line == "final 8":
+            self.type("play sf2 2 0")
+            self.type("play final 1 2")
+
+    def play_on(self):
+        self.score()
+        for number in range(2, read(self.file).rounds + 1):
+            self.type("pair")
+            self.type(f"pair {number} 8 11 17")
+            self.score()
+
+    def score(self):
+        still_open = [table for table, (_, second, score) in enumerate(read(self.file).stored[-1], 1) if second and not score]
+        for table in still_open:
+            self.type(f"{table} 2 0")
+
+
+@pytest.mark.needs("the evening of README", module="jinja2", package="python3-jinja2")
+def test_the_evening_of_the_readme(prompt, room, extras):
+    """What is typed there, and what it is answered, to the champion and to a second reading of it all."""
+    with open(f"{TOP}/README.md", encoding="utf-8") as readme:
+        lines, check = EVENING.search(readme.read())[1].split("$ event-check friday.event\n..\n")
+    file = f"{room}/friday.event"
+    terminal = prompt.terminal(file, python=(sys.executable, "-B"))
+    evening = ShownEvening(terminal, file)
+    for line in lines.splitlines():
+        evening.read(line)
+    assert (evening.line, evening.typed) == ("quit", 14)
+    assert terminal.end("quit\r")[0] == 0
+    ran = subprocess.run([sys.executable, "-B", f"{extras}/event-check", file], capture_output=True, timeout=PATIENCE)
+    assert ran.stdout.decode().endswith(f"\n{check}")

@@ -57,8 +57,10 @@ class Players:
             dropped = "D" if player.has_dropped else " "
             self.session.say(f"{player.number:4} {dropped} {visible(player.name)}{self.seat_of(player)}")
         if len(found) == 1:
-            self.session.say(*self.place_of(found[0]), *self.matches_of(found[0]))
+            place = self.place_of(found[0])
+            self.session.say(*place, *self.matches_of(found[0]))
             self.say_working(found[0])
+            self.session.say_again(lambda: f"This is {shown_player(found[0])}: {''.join(place).strip()}")
 
     def say_working(self, player: Player) -> None:
         """How the tiebreakers come about, by each opponent; and loudly, if the program prints others."""
