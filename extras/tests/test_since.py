@@ -2,7 +2,7 @@
 from companions.event import Event
 from companions.draw import rule_of
 from companions.draws import Draws, Kept
-from companions.prompt.since import Missing, came_since, left_in, missing_since
+from companions.prompt.since import Missing, came_since, counted_since, left_in, missing_since
 from from_model import FromModel
 from scripts.models.plain_event import Event as PlainEvent
 
@@ -122,3 +122,13 @@ def test_a_round_that_was_drawn_comes_with_its_number(tmp_path):
     assert lines[0] == "Round 2 was paired since. To pair it by its number, 3 8 11 17: pair"
     draws.keep_rule(rule_of("off"))
     assert came_since(before, now, OfRounds({2: "ab" * 32}), draws)[0].startswith("Round 2 was paired since. Its key")
+
+
+def test_what_a_copy_takes_back_is_counted():
+    """All of it, since a copy is named by what came right after it; a correction is taken back, and brings nothing."""
+    copy = played(results=((1, (2, 0, 0)),))
+    now = played(results=((1, (2, 1, 0)), (2, (0, 2, 0))), dropped=(3,), late=("Lou", "Moe"), rounds=2)
+    assert counted_since(now, copy) == "the pairing of round 2, 2 scores, 2 players who came, 1 drop"
+    assert counted_since(copy, now, with_other_scores=False) == ""
+    assert counted_since(copy, copy) == ""
+    assert counted_since(cut_of_four([(1, 1, (2, 1, 0))]), cut_of_four(None)) == "the cut, 1 score of the playoff"

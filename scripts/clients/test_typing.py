@@ -127,8 +127,8 @@ def test_what_is_out_of_sight_is_said_again(prompt, room):
     check_said("a pairing", terminal.send("pair"), f"{keys_of(file)[-1][1].hex()}\nRound 1 is paired: 25 tables. All of it: round, or print names\n")
     check_said("a round", terminal.send("round 1"), "These are the tables of round 1. On paper: print tables\n")
     check_said("what is open", terminal.send("open"), "  25  ", "Round 1, 25 tables open: 1-25\n")
-    before = "These are the standings before round 1 is complete. The first eight: standings top 8\n"
-    check_said("standings", terminal.send("standings"), unfilled(before))
+    said = unfilled(terminal.send("standings"))
+    check_said("standings", said, "These are the standings before round 1 is complete. The first eight: standings top 8")
     assert "These are" not in terminal.send("standings 8")
     prompt.said(file, *(f"{table} 2 0" for table in range(1, 26)), "drop 1", "y", "plan 1 2", "cut", "y", "play final 2 0")
     check_said("standings after a round", unfilled(terminal.send("standings")), "These are the standings after round 1. The first eight: standings top 8")

@@ -261,7 +261,7 @@ class Evening:
         """All that is otherwise in a copy, since the copy is named by one thing alone."""
         now = read_or_none(self.session.source)
         if now:
-            gone, back = counted_since(now, copy), counted_since(copy, now)
+            gone, back = counted_since(now, copy), counted_since(copy, now, with_other_scores=False)
             self.session.say_filled(f"That takes back: {gone or 'nothing'}.")
             if back:
                 self.session.say_filled(f"It has, and the event in use has not: {back}.")
