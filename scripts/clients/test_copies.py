@@ -127,7 +127,7 @@ def test_back_over_the_cut(prompt, started):
     check_said("undo after a drop", prompt.said(file, "undo"), "take back drop 7", "The last one: back 2, made before the drop of Di (4)\n")
     text = prompt.said(file, "cut", "y", "undo", "play final 2 1", "undo")
     check_said("undo in the playoff", text, "back 3, made before the cut\n", "back 4, made before the score of the final\n")
-    check_said("back over the cut", prompt.said(file, "back 3", "y"), "That takes back: the cut, 1 score of the playoff.\n", "The playoff was begun since. To begin it again: cut", "  play final 2 1  Ana (1) 2-1-0 ")
+    check_said("back over the cut", prompt.said(file, "back 3", "y"), "That takes back: the cut, 1 score of the playoff.\n", "The playoff was begun since. To begin it again: cut", "  play final 2 1  ", " 2-1-0 ")
 
 
 def test_copy_by_hand(prompt, started):
