@@ -188,7 +188,7 @@ def test_a_throw_without_its_word(prompt, begin):
     told = "What the dice showed: pair 17 3 8 11. Another score for a table: fix 17 0 2"
     assert told not in prompt.said(file, "17 3 8 11")
     prompt.said(file, "pair")
-    check_said("it is named", prompt.said(file, "17 3 8 11"), "The lists are shut for round 1, and each table has its score.", told)
+    check_said("it is named", prompt.said(file, "17 3 8 11"), "The lists are shut for round 1, and no table waits for a score.", told)
     check_said("with those who threw", prompt.said(file, "17, 3, 8, 11 by 1 2"), "What the dice showed: pair 17, 3, 8, 11 by 1 2. ")
     assert numbers_of(file) == []
     assert told not in prompt.said(file, "pair 17 3 8 11", "17 3 8 11")

@@ -344,7 +344,8 @@ class Drawing:
         last = self.draws.drawings(number, "shut")[-1:]
         before = before or (self.draws.shut(number, last[0]) if last else None)
         drawing = self.draws.keep_shut(number, lists)
-        self.say_difference(number, drawing, lists, before)
+        if self.say_difference(number, drawing, lists, before):
+            self.say_mark(lists)
         return drawing
 
     def text(self, number: int, drawing: int, key: str, lists: Lists) -> DrawText:
@@ -370,7 +371,7 @@ class Drawing:
         if number != len(event.rounds) + 1 or event.open_tables() or self.draws.numbers(number):
             return
         raise Declined(
-            f"The lists are shut for round {number}, and each table has its score.\n"
+            f"The lists are shut for round {number}, and no table waits for a score.\n"
             f"What the dice showed: pair {visible(line)}. Another score for a table: fix 17 0 2"
         )
 
@@ -464,8 +465,11 @@ class Drawing:
             session.say_filled(f"New: {', '.join(new)}")
         if before:
             self.say_difference(number, drawing, lists, before)
-        session.say("Their mark:", f"  {lists.mark}")
+        self.say_mark(lists)
         session.say_filled(f"{rule.throw} Then type what they show, in any order: {rule.example}")
+
+    def say_mark(self, lists: Lists) -> None:
+        self.session.say("Their mark:", f"  {lists.mark}")
 
     def out_and_new(self, number: int) -> tuple[list[str], list[str]]:
         """Who sat in the round before and does not play now, and the other way round."""
@@ -478,11 +482,13 @@ class Drawing:
         new = [shown_player(it) for it in players if not it.has_dropped and it.number not in sat]
         return out, new
 
-    def say_difference(self, number: int, drawing: int, lists: Lists, before: Optional[Lists]) -> None:
+    def say_difference(self, number: int, drawing: int, lists: Lists, before: Optional[Lists]) -> bool:
+        """Whether anything differs."""
         told = differences(before, lists) if before else []
         if told:
-            shown = f"Round {number}, drawing {drawing}: since the lists were shut before, {', '.join(told)}."
-            self.session.say_filled(f"{shown} Their mark: {lists.mark}")
+            since = f"Round {number}, drawing {drawing}: since the lists were shut before"
+            self.session.say_filled(f"{since}, {', '.join(told)}.")
+        return bool(told)
 
     def say_text(self, text: DrawText) -> None:
         path = visible(self.draws.path(text.round, text.drawing))
