@@ -178,7 +178,7 @@ def test_back_offers_to_type_again(prompt, program, played):
     number = next(line.split()[0] for line in copies.split("\n") if "before the drop of P4 (4)" in line)
     terminal.send(f"back {number}")
     text = terminal.send("y")
-    check_said("it offers", unfilled(text), "What came since:", "1 drop 4", "Type it again, or but 1 3 to leave some out? (y or n)")
+    check_said("it offers", unfilled(text), "What came since:", "1. drop 4", "Type it again, or but 1 3 to leave some out? (y or n)")
     check_said("there is no second line", terminal.send("but 2"), "Type it again, or but 1 3")
     check_said("yes", terminal.send("y"), "round 3, ", "r3> ")
     assert terminal.end()[0] == 0
@@ -193,7 +193,7 @@ def test_back_leaves_out_what_is_named(prompt, played):
     # a correction came since, in round 1
     terminal = prompt.terminal(played)
     terminal.send(f"back {number}")
-    check_said("it offers", unfilled(terminal.send("y")), "1 fix 1 2 1 0 2", "2 enrol Ed", "Type it again, or but 1 3")
+    check_said("it offers", unfilled(terminal.send("y")), "1. fix 1 2 1 0 2", "2. enrol Ed", "Type it again, or but 1 3")
     text = terminal.send("but 1")
     check_said("the rounds are said", text, "Round 2 was paired since. Its key, for: pair again", "Round 3 was paired since.")
     assert terminal.end()[0] == 0

@@ -281,7 +281,7 @@ class Evening:
     def offer(self, missing: list[Missing], heading: str) -> None:
         """Types again what the answer leaves."""
         session = self.session
-        session.say(heading, *(f"{at:4}  {it.told}" for at, it in enumerate(missing, 1)))
+        session.say(heading, *(f"{at:4}.  {it.told}" for at, it in enumerate(missing, 1)))
         question = "Type it again, or but 1 3 to leave some out? (y or n)"
         answer = session.lines.reply(question, lambda text: left_in(text, missing) is not None)
         with unbroken(), session.source.turn.taken():
