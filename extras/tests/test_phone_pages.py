@@ -181,6 +181,11 @@ def check_headers(reply, is_own=False):
     assert not any("\n" in value or "\r" in value for value in reply.headers.values())
 
 
+def scores_of(page):
+    """What the buttons for scores say."""
+    return [node.attributes["value"] for node in page.root.of("button") if node.attributes.get("name") == "s"]
+
+
 def points_due(event):
     """Each name in the pairings, with the points with which the player goes into the round, once there are any."""
     for _, *row in plain_page.table_rows(event, len(event.stored)):
@@ -367,10 +372,7 @@ def test_contrast_is_that_of_level_aa_in_light_and_dark():
 def test_three_screens(room):
     target = room.target(1)
     page = check_page(room.ask("GET", target))
-    buttons = [
-        node.attributes["value"] for node in page.root.of("button") if node.attributes.get("name") == "s"
-    ]
-    assert buttons == ["2-0-0", "2-1-0", "0-2-0", "1-2-0", "1-1-0", "1-1-1"]
+    assert scores_of(page) == ["2-0-0", "2-1-0", "0-2-0", "1-2-0", "1-1-0", "1-1-1"]
     for query in ("s=2-1-0", "x=2&y=1&d=0"):
         page = check_page(room.ask("GET", f"{target}?{query}"))
         assert [node.text() for node in page.root.of("dd")] == ["2", "1"]
@@ -422,8 +424,10 @@ def test_a_seat_that_goes_back_sees_that_its_score_waits(tmp_path, dice):
     room.hand_in(1, "2-1-0", 1)
     page = check_page(room.ask("GET", f"{target}?s=2-1-0"))
     assert ENGLISH["waits"] in page.root.text() and ENGLISH["hand_it_in"] not in page.root.text()
-    # the right one is a tap away, and takes its place
-    assert [node.attributes["value"] for node in page.root.of("button") if node.attributes.get("name") == "s"][2] == "0-2-0"
+    # the right one is a tap away, also on the player's own page, and takes its place
+    own = own_page(room, room.cache.now.match(1, 1).first)
+    assert ENGLISH["or_this_one"] in own.root.text() and len(scores_of(own)) == 6
+    assert scores_of(page)[2] == "0-2-0"
     assert ENGLISH["hand_it_in"] in room.ask("GET", f"{target}?wrong=1&s=0-2-0").text
     room.hand_in(1, "0-2-0", 1)
     assert room.hand_in(1, "0-2-0", 2).status == 303 and room.queue.asked == [(1, 1, (0, 2, 0))]
@@ -1034,6 +1038,8 @@ def test_one_table_that_hands_in_without_end(room, monkeypatch):
     monkeypatch.setattr(time, "monotonic", lambda: 1000.0)
     assert [room.hand_in(1, "2-0-0").status for _ in range(10)] == [303] * 8 + [429] * 2
     assert room.hand_in(2, "2-0-0").status == 303
+    # and that it is wrong is a word of the table too
+    assert [room.ask("POST", room.target(2), "wrong=1").status for _ in range(9)] == [303] * 7 + [429] * 2
 
 
 @pytest.mark.parametrize(
