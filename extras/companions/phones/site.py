@@ -36,6 +36,7 @@ from companions.phones.pages import (
 from companions.phones.score_queue import Answer, NotNow, ScoreQueue
 from companions.phones.texts import DEFAULT
 from companions.program import Refusal
+from companions.records import records_now
 from companions.reports import (
     CALLS,
     CALLS_OFF,
@@ -55,7 +56,6 @@ from companions.reports import (
     half_said,
     judge_call,
 )
-from companions.records import records_now
 from companions.rosters import tidy
 from companions.score import Score
 from companions.sheets.parts import records_before
@@ -431,6 +431,7 @@ class Site(Pages):
         return {"state": "open", **self.both(at)}
 
     def both(self, at: AtTable) -> dict[str, Player]:
+        """The two players, as the buttons for scores name them."""
         players = at.snapshot.players
         return {"first": players[at.match.first], "second": players[at.match.second]}
 
@@ -530,16 +531,15 @@ class Site(Pages):
             return self.look_once_more(at, score, is_late=True)
 
     def said(self, at: AtTable, outcome: str, drops: tuple[int, ...]) -> Reply:
-        """Kept for the scorekeeper, who drops the player or doesn't, or sends a judge."""
+        """Kept for the scorekeeper, who drops the player or doesn't, sends a judge, or looks at a stored score."""
         if at.number < at.snapshot.number:
             return self.told(409, at.asked.language, "round_is_over")
-        is_wrong = outcome == WRONG
-        score = at.match.score or NO_SCORE
+        stored = at.match.score if outcome == WRONG else None
         try:
-            self.keep(at, score if is_wrong else NO_SCORE, outcome, score if is_wrong else None, drops)
+            self.keep(at, stored or NO_SCORE, outcome, stored, drops)
         except NotNow:
             return self.told(503, at.asked.language, "not_yet", "not_yet_why")
-        return Reply(303, b"", [("Location", f"{at.target}?wrong=1" if is_wrong else at.done)])
+        return Reply(303, b"", [("Location", f"{at.target}?wrong=1" if stored else at.done)])
 
     def has_to_wait(self, at: AtTable, score: Score) -> bool:
         """Whether the other seat doesn't say the same. What this one says is kept then."""
