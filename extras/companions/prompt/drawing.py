@@ -233,8 +233,8 @@ class Drawing:
         self.rounds.set_clock(wanted.minutes)
 
     def without_bare_minutes(self, wanted: Wanted) -> Wanted:
-        """Minutes alone, as `pair` takes them where nothing is drawn, are no throw. Once the draw was ended they
-        are what they were.
+        """Minutes alone, as `pair` takes them if nothing is drawn, are no throw. Once the draw was ended they are
+        what they were.
         """
         rule = self.draws.rule
         minutes = int(wanted.values[0]) if len(wanted.values) == 1 else 0

@@ -228,7 +228,8 @@ class Rounds:
         self.say_of_which_round(number)
 
     def say_of_which_round(self, number: Optional[int] = None) -> None:
-        """After standings that are longer than the screen: after which round, if not after the last complete one."""
+        """After standings that are longer than the screen: those of the last complete round, or of an earlier one.
+        """
 
         def told() -> str:
             after = self.session.event.complete_rounds() if number is None else number

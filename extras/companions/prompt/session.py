@@ -459,7 +459,7 @@ def next_in_playoff(event: Event) -> str:
 
 
 def fitted(text: str, event: Event) -> str:
-    """A text whose example, quarterfinal 2, becomes the first match of the playoff that is open, if one is."""
+    """A text whose example, quarterfinal 2, becomes the first match of the playoff that is open, if any is."""
     still_open = open_slots(event)
     return text.replace("qf2", slot_typed(*still_open[0], event.first_stage)) if still_open else text
 

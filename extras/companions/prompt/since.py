@@ -104,12 +104,13 @@ def playoff_since(before: Event, now: Event) -> list[str]:
 
 
 def counted_since(before: Event, now: Event, with_other_scores: bool = True) -> str:
-    """What the first event has and the second one hasn't, in a few words; or nothing. A score that stands there
-    otherwise may count or not.
+    """What the first event has and the second one hasn't, in a few words; or nothing. A score that is another
+    one there may count or not.
     """
     later = range(len(now.rounds) + 1, len(before.rounds) + 1)
     came = sum(number not in now.enrolled for number in before.enrolled)
-    scores = sum(match.score is not None and not match.is_bye for at in later for match in before.rounds[at - 1])
+    matches = [match for at in later for match in before.rounds[at - 1] if not match.is_bye]
+    scores = sum(match.score is not None for match in matches)
     words = [it.words[0] for at in range(1, len(now.rounds) + 1) for it in results_since(before, now, at)]
     scores += len(words) if with_other_scores else words.count("result")
     drops = sum(missing.words[0] == "drop" for missing in players_since(before, now))
