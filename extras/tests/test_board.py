@@ -2,7 +2,7 @@
 from dataclasses import replace
 
 from companions.lists import Player
-from companions.sheets.board import HEIGHT, SIZES, WIDTH, layout_of, lines_in
+from companions.sheets.board import AROUND, HEIGHT, LINE, SIZE_OF_SEVERAL, SIZES, WIDTH, layout_of, lines_in
 from companions.sheets.parts import Part, name_rows
 from companions.sheets.widths import width_of
 
@@ -15,16 +15,22 @@ def by_name(names):
 
 def test_more_players_have_smaller_letters():
     sizes = [
-        layout_of(by_name([f"Ana Lima {at}" for at in range(count)])).size for count in (8, 37, 64, 128, 256)
+        layout_of(by_name([f"Ana Lima {at}" for at in range(count)])).size for count in (8, 37, 64, 128, 512)
     ]
-    assert sizes[0] == SIZES[0] and sizes == sorted(sizes, reverse=True) and sizes[-1] == SIZES[-1]
+    assert sizes[0] == SIZES[0] and sizes == sorted(sizes, reverse=True) and sizes[-1] == SIZE_OF_SEVERAL
 
 
 def test_all_rows_have_room():
-    for count in (8, 37, 64, 128):
+    for count in (8, 37, 64):
         layout = layout_of(by_name([f"Ana Lima {at}" for at in range(count)]))
-        rows = -(-count // layout.columns)
-        assert rows * layout.size <= HEIGHT and layout.columns * layout.size < WIDTH
+        assert layout.rows == -(-count // layout.columns)
+        assert layout.rows * layout.size * (LINE + AROUND) <= HEIGHT and layout.columns * layout.size < WIDTH
+
+
+def test_a_list_that_is_too_long_takes_several_looks():
+    layout = layout_of(by_name([f"Ana Lima {at}" for at in range(512)]))
+    assert layout.rows * layout.columns < 512
+    assert (layout.rows + 1) * layout.size * (LINE + AROUND) > HEIGHT >= layout.rows * layout.size * (LINE + AROUND)
 
 
 def test_a_name_is_broken_between_words():
@@ -35,4 +41,5 @@ def test_a_name_is_broken_between_words():
 
 
 def test_a_name_without_a_place_to_break_is_shown_all_the_same():
-    assert layout_of(by_name(["W" * 60] * 400)).size == SIZES[-1]
+    layout = layout_of(by_name(["W" * 60] * 400))
+    assert (layout.size, layout.columns) == (SIZE_OF_SEVERAL, 1)

@@ -1,17 +1,20 @@
 """Pages, of events that are read from the plain reading."""
+import base64
+import hashlib
+import time
 from dataclasses import replace
 
 import pytest
 
 pytest.importorskip("jinja2")
 
+from companions.clock import Clock
 from companions.codes import Secret, shown_code
 from companions.event import Event
-from companions.sheets.page import Board, Foot, Playing, foot_of, page_of, parts_of_board, playing_in, turn_now
+from companions.sheets.page import Board, Foot, Playing, board_of, page_of, parts_of_board, playing_in
 from companions.sheets.parts import (
     DEFAULT_PARTS,
     ROOM_BESIDE_A_CODE,
-    SECONDS_TO_RELOAD,
     SlipsFor,
     letters_of_slip,
     stacks_of,
@@ -21,35 +24,48 @@ from scripts.clients.random_evenings import COMPLETE, ENDED, ENROLLING, OPEN, ST
 from scripts.models.plain_page import Page
 
 
-def board(event, turn=None, clock=""):
+def board(event, clock=None):
     read = Event(FromModel(event))
-    return Page(page_of(read, "Friday", len(event.stored), parts_of_board(read), Board(turn, clock)))
+    return Page(page_of(read, "Friday", len(event.stored), parts_of_board(read), Board(clock)))
 
 
-def shown(page):
-    """The parts that a board shows now, by what hides the others."""
-    kinds = {name: "now" in part.kinds() for name, part in page.parts().items()}
-    return [
-        name for name, is_now in kinds.items() if is_now or "in-turn" not in page.root.of("body")[0].kinds()
-    ]
-
-
-@pytest.mark.parametrize("way", [OPEN, ENDED])
-def test_each_reload_shows_the_next_part(dice, way):
-    event = evening(dice, 11, way, 3, 4)
-    parts = list(board(event).parts())
-    assert shown(board(event)) == parts
-    assert [shown(board(event, turn)) for turn in range(2 * len(parts))] == [[part] for part in parts + parts]
-    assert [
-        turn_now(seconds)
-        for seconds in (0, SECONDS_TO_RELOAD - 0.1, SECONDS_TO_RELOAD, 2 * SECONDS_TO_RELOAD)
-    ] == [0, 0, 1, 2]
-
-
-def test_the_clock_stands_on_the_board(dice):
+def test_the_clock_stands_on_the_board(dice, monkeypatch):
+    monkeypatch.setenv("TZ", "UTC")
+    time.tzset()
     event = evening(dice, 8, OPEN, 3, 0)
-    assert board(event, 0, "37 min, until 20:45").root.one("p", "clock") == "37 min, until 20:45"
-    assert board(event, 0).root.of("p", "clock") == []
+    # 20:45 of a day long ago
+    until = 20 * 3600 + 45 * 60
+    (clock,) = board(event, Clock(until, 50)).root.of("p", "clock")
+    assert (clock.attributes["data-until"], clock.attributes["data-minutes"]) == (str(until), "50")
+    assert (clock.one("span", "left"), clock.one("span", "hour")) == ("", "Time is over, since 20:45")
+    # of a day to come
+    (clock,) = board(event, Clock(until + 86400 * 100_000, 50)).root.of("p", "clock")
+    assert clock.one("span", "hour") == "until 20:45"
+    assert board(event).root.of("p", "clock") == []
+
+
+def test_the_board_has_one_script_and_a_policy_that_names_it(dice):
+    event = evening(dice, 8, OPEN, 3, 0)
+    root = board(event).root
+    (script,) = root.of("script")
+    digest = base64.b64encode(hashlib.sha256(script.text().encode()).digest()).decode()
+    (said,) = [it for it in root.of("meta") if it.attributes.get("http-equiv") == "Content-Security-Policy"]
+    assert f"script-src 'sha256-{digest}';" in said.attributes["content"] and script.attributes == {}
+    assert said.attributes["content"].startswith("default-src 'none'; ")
+    sheets = Page(page_of(Event(FromModel(event)), "Friday", 1, ("tables", "names"))).root
+    assert sheets.of("script") == [] and [it for it in sheets.of("meta") if "http-equiv" in it.attributes] == []
+
+
+def test_a_board_stays_on_the_names_while_nobody_has_finished(dice):
+    event = evening(dice, 9, STARTED, 3, 0)
+    event.pair(1, bytes(32))
+    for score, is_said in ((None, True), ((2, 0, 0), False)):
+        if score:
+            event.report(1, 3, score, True)
+        read = Event(FromModel(event))
+        text = page_of(read, "Friday", 1, parts_of_board(read), board_of(read, None, None))
+        (body,) = Page(text).root.of("body")
+        assert ("data-nobody-finished" in body.attributes) == is_said
 
 
 def test_no_name_gets_into_the_page_as_markup(dice):
@@ -84,12 +100,14 @@ def test_the_board_says_how_many_tables_have_finished(dice):
         still = tuple(place for place, score in tables if score is None)
         due = Playing(len(tables) - len(still), still) if newest else None
         assert playing_in(Event(FromModel(event))) == due
-    texts = [Playing(*it).shown for it in ((0, (1, 2, 3)), (1, (2,)), (8, (2, 4, 5, 6, 9)), (3, ()))]
+    many = tuple(range(1, 32))
+    texts = [Playing(*it).shown for it in ((0, (1, 2, 3)), (1, (2,)), (8, (2, 4, 5, 6, 9)), (3, ()), (9, many))]
     assert texts == [
         "0 of 3 tables have finished. Still playing: 1-3",
         "1 of 2 tables has finished. Still playing: 2",
         "8 of 13 tables have finished. Still playing: 2, 4-6, 9",
         "All scores are in.",
+        "9 of 40 tables have finished.",
     ]
 
 
@@ -98,7 +116,7 @@ def test_the_foot_of_a_board(dice):
     event.pair(1, bytes(32))
     event.report(1, 3, (2, 0, 0), True)
     read, secret = Event(FromModel(event)), Secret("http://192.168.1.10:8080", bytes(32))
-    text = page_of(read, "Friday", 1, parts_of_board(read), Board(None, "", foot_of(read, secret)))
+    text = page_of(read, "Friday", 1, parts_of_board(read), board_of(read, None, secret))
     root = Page(text).root
     assert root.one("p", "playing") == "1 of 4 tables has finished. Still playing: 1, 2, 4"
     assert root.one("p", "address") == "Your table and your score on your phone: 192.168.1.10:8080"

@@ -5,6 +5,7 @@ import re
 import threading
 import time
 from dataclasses import replace
+from email.utils import parsedate_to_datetime
 from urllib.parse import quote
 
 import pytest
@@ -167,10 +168,13 @@ def check_page(reply, names=(), is_own=False):
     return page
 
 
-def check_headers(reply, is_own=False):
-    """A player's own page may be kept, by that phone alone, and is asked for each time."""
+def check_headers(reply, is_own=False, is_board=False):
+    """A player's own page may be kept, by that phone alone, and is asked for each time. The board alone has a
+    script, which its policy names.
+    """
     policy = reply.headers["Content-Security-Policy"]
-    assert "default-src 'none'" in policy and "frame-ancestors 'none'" in policy and "script" not in policy
+    assert "default-src 'none'" in policy and "frame-ancestors 'none'" in policy
+    assert re.findall("script-src '(.{7})", policy) == ["sha256-"] * is_board
     due = {
         "X-Frame-Options": "DENY",
         "X-Content-Type-Options": "nosniff",
@@ -205,7 +209,7 @@ def test_pages_of_an_event_with_names_of_all_kinds(tmp_path, dice, way):
     for target in ("/", "/?q=a", "/?q=%3Cscript%3E", "/pairings", "/standings", "/none"):
         check_page(room.ask("GET", target))
     check_page(room.desk_page())
-    check_headers(room.ask("GET", "/board"))
+    check_headers(room.ask("GET", "/board"), is_board=True)
     rows = [
         [cell.text() for cell in row.of("td")] for row in room.ask("GET", "/standings").page().root.of("tr")
     ][1:]
@@ -275,7 +279,11 @@ def test_the_clock_stands_on_each_page(room):
     keep_clock(room.file, Clock(0, 50))
     for target in ("/", "/pairings", "/standings", room.target(1)):
         assert "Time is over" in room.ask("GET", target).page().root.one("span", "clock")
-    assert "Time is over" in room.ask("GET", "/board").page().root.one("p", "clock")
+    before, board = time.time(), room.ask("GET", "/board")
+    assert "Time is over" in board.page().root.one("p", "clock")
+    # it goes by the time of the scorekeeper's machine, which stands in the head
+    assert "data-sent" in board.page().root.of("body")[0].attributes
+    assert before - 1 <= parsedate_to_datetime(board.headers["Last-Modified"]).timestamp() <= time.time()
 
 
 def test_the_event_s_name_is_asked_once_for_each_picture(room, monkeypatch):

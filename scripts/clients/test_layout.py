@@ -1,6 +1,9 @@
-"""Sheets and boards as a browser lays them out: on paper, A4 and Letter, read back by `pdftotext`; on a screen of 1920 by 1080; and slips of one height."""
+"""Sheets and boards as a browser lays them out: on paper, A4 and Letter, read back by `pdftotext`; on screens of three sizes, with the clock and the parts
+in turn; and slips of one height.
+"""
 import html
 import json
+import os
 import re
 import subprocess
 
@@ -135,8 +138,8 @@ def test_on_paper(sheets, program, room, event, browser, kind):
 
 # ---- the screen
 
-# what a browser says of the layout of a board, with all of its parts and with each alone: of each name the lines that it takes, how far down it goes, and
-# where the champion's box ends
+# what a browser says of the layout of a board, with each part in its turn: of each name the lines that it takes, how far down and across it goes, how small
+# its letters are, which texts lie over one another, and in how many looks the part is shown
 MEASURE = """
 <script>
 const lines = node => {
@@ -147,23 +150,51 @@ const lines = node => {
     if (it.width && !tops.some(top => Math.abs(top - it.top) < it.height / 2)) tops.push(it.top);
   return tops.length;
 };
+const seen = node => getComputedStyle(node).visibility === "visible" && node.getClientRects().length;
+const lettersOf = node => {
+  const drawing = node.closest(".tree");
+  return parseFloat(getComputedStyle(node).fontSize) * (drawing ? drawing.getScreenCTM().a : 1);
+};
+const texts = () => {
+  const walker = document.createTreeWalker(document.body, NodeFilter.SHOW_TEXT, it => (it.textContent.trim() && seen(it.parentNode) ? 1 : 2));
+  const found = [];
+  while (walker.nextNode()) {
+    const range = document.createRange();
+    range.selectNodeContents(walker.currentNode);
+    for (const it of range.getClientRects())
+      found.push({ text: walker.currentNode.textContent.trim(), left: it.left, right: it.right, top: it.top, bottom: it.bottom, letters: lettersOf(walker.currentNode.parentNode) });
+  }
+  return found;
+};
+const over = all => {
+  const found = [];
+  for (const one of all) for (const other of all)
+    if (one !== other && one.text !== other.text && one.left + 1 < other.right && other.left + 1 < one.right && one.top + 0.35 * one.letters < other.bottom - 0.2 * other.letters && other.top + 0.35 * other.letters < one.bottom - 0.2 * one.letters)
+      found.push([one.text, other.text]);
+  return found;
+};
 const bottoms = what => [...document.querySelectorAll(what)].map(it => it.getBoundingClientRect().bottom);
-const measured = () => ({
-  names: [...document.querySelectorAll("td bdi, .seat bdi")].filter(it => it.getClientRects().length).map(it => [it.textContent, lines(it)]),
-  bottom: Math.max(0, ...bottoms(".tree, .champion, .in-turn .now, .clock")),
-  champion: bottoms(".in-turn .now .seat.champion, .winner"),
-  wide: document.documentElement.scrollWidth,
-  slips: [...document.querySelectorAll(".slip")].map(it => Math.round(10 * it.getBoundingClientRect().height)),
-  inside: [...document.querySelectorAll(".slip")].filter(it => it.scrollHeight > it.clientHeight + 1).map(it => it.textContent),
-  slip_names: [...document.querySelectorAll(".slip .name bdi")].map(it => [it.textContent, lines(it)]),
-});
+const measured = part => {
+  const all = texts(), looks = part && part.querySelector(".looks");
+  return {
+    names: [...document.querySelectorAll(".now td bdi, .now .seat bdi")].filter(seen).map(it => [it.textContent, lines(it)]),
+    bottom: Math.max(0, ...all.map(it => it.bottom), ...bottoms(".now .tree, .now .seat")),
+    wide: document.documentElement.scrollWidth,
+    looks: looks ? (looks.scrollWidth + parseFloat(getComputedStyle(looks).columnGap)) / (looks.clientWidth + parseFloat(getComputedStyle(looks).columnGap)) : 1,
+    cut: looks ? looks.scrollHeight - looks.clientHeight : 0,
+    rows: part ? [...part.querySelectorAll("tbody tr:not(.heads)")].map(it => it.getBoundingClientRect()).filter(it => it.bottom > part.getBoundingClientRect().bottom + 1).length : 0,
+    smallest: Math.min(...all.filter(it => it.right > 0 && it.left < innerWidth).map(it => it.letters)),
+    over: over(all.filter(it => it.right > 0 && it.left < innerWidth)).slice(0, 5),
+    slips: [...document.querySelectorAll(".slip")].map(it => Math.round(10 * it.getBoundingClientRect().height)),
+    inside: [...document.querySelectorAll(".slip")].filter(it => it.scrollHeight > it.clientHeight + 1).map(it => it.textContent),
+    slip_names: [...document.querySelectorAll(".slip .name bdi")].map(it => [it.textContent, lines(it)]),
+  };
+};
 window.onload = () => {
-  const found = { all: measured() };
-  document.body.classList.add("in-turn");
-  for (const part of document.querySelectorAll(".part")) {
-    part.classList.add("now");
-    found[part.classList[1]] = measured();
-    part.classList.remove("now");
+  const found = { all: measured() }, parts = [...document.querySelectorAll(".part")];
+  for (const part of parts) {
+    for (const other of parts) other.classList.toggle("now", other === part);
+    found[part.classList[1]] = measured(part);
   }
   const pre = document.createElement("pre");
   pre.id = "found";
@@ -172,18 +203,30 @@ window.onload = () => {
 };
 </script>
 """
-SCREEN = 1920, 1080
+SCREENS = (1280, 720), (1920, 1080), (3840, 2160)
 FIRST, LAST = "Maximiliane", "Oberhausener"
+# the letters of a board are at least so large, in hundredths of the screen's width: 8 millimetres on a wall of two metres
+LEAST_LETTERS = 0.4
 
 
-def laid_out(browser, room, text):
-    """What a browser finds of the page on the screen."""
+def without_policy(text):
+    """A board for a test that adds a script of its own, and that loads itself no more."""
+    return re.sub('<meta http-equiv="[^"]*"[^>]*>', "", text)
+
+
+def found_in(browser, room, text, script, screen):
+    """What the script, at the end of the head, puts on the page."""
     path = f"{room}/screen.html"
     with open(path, "w", encoding="utf-8") as it:
-        it.write(re.sub('<meta http-equiv="refresh"[^>]*>', "", text).replace("</head>", f"{MEASURE}</head>"))
-    printed = browse(browser, room, path, f"--window-size={SCREEN[0]},{SCREEN[1]}", "--virtual-time-budget=2000", "--dump-dom")
+        it.write(without_policy(text).replace("</head>", f"{script}</head>"))
+    printed = browse(browser, room, path, f"--window-size={screen[0]},{screen[1]}", "--virtual-time-budget=2000", "--dump-dom")
     found = re.search('<pre id="found">(.*?)</pre>', printed.decode(), re.S)
     return json.loads(html.unescape(found[1]))
+
+
+def laid_out(browser, room, text, screen=(1920, 1080)):
+    """What a browser finds of the page on the screen."""
+    return found_in(browser, room, text, MEASURE, screen)
 
 
 def named_long(event):
@@ -191,29 +234,126 @@ def named_long(event):
     event.names = [f"{FIRST} {'Anna ' * (at % 3)}{LAST} {at}" if at % 2 else f"Bo Sato {at}" for at in range(1, len(event.names) + 1)]
 
 
-def check_layout(part, layout):
+def check_layout(part, layout, screen):
     assert [it for it in layout["names"] if it[1] > len(it[0].split())] == [], f"{part}, names"
-    assert layout["wide"] <= SCREEN[0], f"{part}, nothing beside the screen"
-    if part in ("all", "bracket"):
-        assert [it for it in layout["champion"] if it > SCREEN[1]] == [], f"{part}, the champion is seen"
-    if part != "all":
-        assert layout["bottom"] <= SCREEN[1], f"{part}, above the fold"
+    assert layout["wide"] <= screen[0], f"{part}, nothing beside the screen"
+    assert layout["bottom"] <= screen[1], f"{part}, above the fold"
+    assert (layout["rows"], layout["over"]) == (0, []), f"{part}, nothing is cut, and nothing lies over anything"
+    assert layout["smallest"] >= LEAST_LETTERS * screen[0] / 100, f"{part}, letters"
+
+
+CROWDS = [(8, OPEN, 4), (37, OPEN, 8), (37, ENDED, 8), (64, OPEN, 0), (128, COMPLETE, 0), (500, OPEN, 8)]
 
 
 @pytest.mark.needs("the board on a screen", command=BROWSERS)
-@pytest.mark.parametrize("players, way, cut", [(8, OPEN, 4), (37, OPEN, 8), (37, ENDED, 8), (64, OPEN, 0), (128, COMPLETE, 0)])
-def test_screen(sheets, program, room, dice, browser, players, way, cut):
-    """On a screen of 1920 by 1080: no name takes more lines than it has words, and each part that a board shows in its turn is seen whole."""
+@pytest.mark.parametrize("screen", SCREENS)
+@pytest.mark.parametrize("players, way, cut", CROWDS)
+def test_screen(sheets, program, room, dice, browser, players, way, cut, screen):
+    """On each screen: no name takes more lines than it has words, and each part that a board shows in its turn is seen whole, a large one in several looks."""
     event = evening(dice, players, way, 3, cut)
     named_long(event)
     file = laid(program.path, f"{room}/e.event", event, "E")
     with open(f"{file}.clock", "w") as it:
         it.write("until 1764362700 of 50\n")
     _, text, _ = sheets.printed(file, "--board", "--title", "Friday Night")
-    found = laid_out(browser, room, text)
+    found = laid_out(browser, room, text, screen)
     assert list(found) == ["all", *parts_due(event, len(event.stored), is_board=True)], "parts"
-    for part, layout in found.items():
-        check_layout(part, layout)
+    for part, layout in list(found.items())[1:]:
+        check_layout(part, layout, screen)
+        # names of up to 37 letters
+        assert layout["looks"] < (1.01 if players <= 37 else 2.01 if players <= 64 else 10.01), f"{part}, in few looks"
+
+
+# ---- the clock, and the parts in turn
+
+# a clock that the test sets, in place of the machine's
+HELD = """
+<script>
+let at = 0;
+Date.now = () => at * 1000;
+const shown = () => {
+  const clock = document.querySelector(".clock");
+  return [clock.className, clock.querySelector(".left").textContent, clock.querySelector(".hour").textContent, document.querySelector(".now").classList[1]];
+};
+window.onload = () => {
+  const found = SECONDS.map(second => {
+    at = second;
+    dispatchEvent(new Event("resize"));
+    return shown();
+  });
+  const pre = document.createElement("pre");
+  pre.id = "found";
+  pre.textContent = JSON.stringify(found);
+  document.body.append(pre);
+};
+</script>
+"""
+# a multiple of what a round of three parts takes
+UNTIL = 1764360000
+
+
+@pytest.fixture
+def watched(sheets, program, room, dice, browser):
+    """What the board of a round shows so many seconds before the end of its 50 minutes: the clock, and the part."""
+    event = evening(dice, 9, STARTED, 3, 0)
+    event.pair(1, bytes(32))
+    for table in range(1, 5):
+        event.report(1, table, (2, 0, 0), True)
+    event.pair(2, bytes(32))
+    file = laid(program.path, f"{room}/e.event", event, "E")
+    with open(f"{file}.clock", "w") as it:
+        it.write(f"until {UNTIL} of 50\n")
+    _, text, _ = sheets.printed(file, "--board", env={**os.environ, "TZ": "UTC"})
+
+    def shown(*left):
+        seconds = [round(UNTIL - it, 3) for it in left]
+        return found_in(browser, room, text, HELD.replace("SECONDS", json.dumps(seconds)), (1920, 1080))
+
+    return shown
+
+
+@pytest.mark.needs("the board on a screen", command=BROWSERS)
+def test_the_clock_counts_down_to_a_second(watched):
+    before, after = "until 20:00", "Time is over, since 20:00"
+    found = watched(3000, 2999.5, 2999, 601, 600, 60, 59.2, 0.1, 0, -0.9, -1, -192, -3600)
+    assert [it[:3] for it in found] == [
+        ["clock", "50:00", before],
+        ["clock", "50:00", before],
+        ["clock", "49:59", before],
+        ["clock", "10:01", before],
+        ["clock soon", "10:00", before],
+        ["clock soon", "1:00", before],
+        ["clock soon", "1:00", before],
+        ["clock soon", "0:01", before],
+        ["clock over", "+0:00", after],
+        ["clock over", "+0:00", after],
+        ["clock over", "+0:01", after],
+        ["clock over", "+3:12", after],
+        ["clock over", "+60:00", after],
+    ]
+
+
+@pytest.mark.needs("the board on a screen", command=BROWSERS)
+def test_a_round_begins_with_the_names_and_then_all_parts_are_turned(watched):
+    first = watched(3000, 2980, 2960, 2701)
+    assert [it[3] for it in first] == ["names"] * 4, "in the first five minutes"
+    parts = [it[3] for it in watched(2700, 2680, 2660, 2640, 2620)]
+    assert parts == ["names", "tables", "standings", "names", "tables"], "twenty seconds each"
+
+
+@pytest.mark.needs("the board on a screen", command=BROWSERS)
+def test_the_script_runs_under_the_policy_of_the_page(sheets, program, room, dice, browser):
+    file = laid(program.path, f"{room}/e.event", evening(dice, 9, OPEN, 3, 0), "E")
+    path = f"{room}/board.html"
+    sheets.printed(file, "--board", "-o", path)
+    shown = browse(browser, room, path, "--window-size=1920,1080", "--virtual-time-budget=1000", "--dump-dom").decode()
+    assert re.search('<html [^>]*class="turns"', shown), "the script has turned it"
+    with open(path, encoding="utf-8") as page:
+        other = page.read().replace('"use strict";', '"use strict"; ')
+    with open(path, "w", encoding="utf-8") as page:
+        page.write(other)
+    shown = browse(browser, room, path, "--window-size=1920,1080", "--virtual-time-budget=1000", "--dump-dom").decode()
+    assert 'class="turns"' not in shown, "no other script runs"
 
 
 @pytest.mark.needs("the board on a screen", command=BROWSERS)

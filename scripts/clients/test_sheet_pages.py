@@ -45,9 +45,11 @@ SIZES = [2, 3, 4, 5, 8, 9, 11, 16, 23, 24, 31, 50, 65, 128]
 
 
 def check_alone(text, page):
-    """The page has no script, and asks for nothing outside of it."""
+    """The page asks for nothing outside of it, and has no script, but for the board's own."""
     tags = {it.tag for it in page.root.nodes()}
-    assert tags & {"script", "link", "img", "iframe", "object", "embed", "base", "a", "form", "use", "image"} == set(), "tags that ask for something"
+    assert len(page.root.of("script")) == len(page.root.of("body", "board")), "scripts"
+    tags -= {"script"}
+    assert tags & {"link", "img", "iframe", "object", "embed", "base", "a", "form", "use", "image"} == set(), "tags that ask for something"
     names = {name for it in page.root.nodes() for name in it.attributes}
     assert {it for it in names if it.startswith("on") or it in ("src", "hre", "xlink:hre", "data", "action")} == set(), "attributes that do so"
     style = "".join(it.text() for it in page.root.of("style"))
@@ -105,7 +107,7 @@ def check_event(sheets, program, file, event, dice):
     board = page_of(sheets, file, "--board", "--title", title)
     check_page(board, event, len(event.stored), title, is_board=True)
     assert shown_foot(board.root) == foot_due(event), "beneath the board"
-    assert [it.attributes.get("content") for it in board.root.of("meta") if "http-equiv" in it.attributes] == ["20"], "the board reloads itself"
+    assert [it.attributes.get("content") for it in board.root.of("meta") if it.attributes.get("http-equiv") == "refresh"] == ["20"], "the board reloads itself"
 
 
 @pytest.mark.needs("sheets and boards", module="jinja2", package="python3-jinja2")

@@ -315,6 +315,7 @@ def foot_due(event):
     have = "has" if done == 1 else "have"
     playing = f"{done} of {len(tables)} table{'s' * (len(tables) != 1)} {have} finished. Still playing: {spans(still)}" if still else "All scores are in."
     last = f"Next: the playoff of the first {event.cut}" if event.cut else "This is the last round."
+    playing = playing if len(still) <= 30 else playing[: playing.index(" Still")]
     return [playing, f"Next: round {number + 1} of {event.rounds}" if number < event.rounds else last]
 
 

@@ -14,11 +14,6 @@ from companions.phones.texts import LANGUAGES
 
 FOLDER = os.path.join(os.path.dirname(os.path.abspath(__file__)), "templates")
 POLICY = "default-src 'none'; style-src 'self'; form-action 'self'; frame-ancestors 'none'; base-uri 'none'"
-# the board is a page of the sheets, which has its style inside
-POLICY_OF_BOARD = (
-    "default-src 'none'; style-src 'unsafe-inline'; form-action 'none'; frame-ancestors 'none'; "
-    "base-uri 'none'"
-)
 SAFE_HEADERS = [
     ("X-Frame-Options", "DENY"),
     ("X-Content-Type-Options", "nosniff"),

@@ -6,6 +6,7 @@ import sys
 import threading
 import time
 from dataclasses import dataclass, replace
+from email.utils import formatdate
 from typing import Any, Callable, Hashable, Optional
 
 from companions.clock import Clock
@@ -23,8 +24,6 @@ from companions.phones.kept_pages import KeptPages, Shown
 from companions.phones.limits import Crowded, DelayQueues, OriginBuckets, TokenBuckets, origin_of
 from companions.phones.me import me_of
 from companions.phones.pages import (
-    POLICY,
-    POLICY_OF_BOARD,
     Reply,
     named,
     plain_in,
@@ -240,12 +239,24 @@ class Site(Pages):
 
         def shown() -> Shown:
             snapshot = self.cache.now
-            return Shown(snapshot.pairing, (snapshot.version, self.clock(language)))
+            clock = self.cache.clock if is_board else self.clock(language)
+            return Shown(snapshot.pairing, (snapshot.version, clock))
 
         name = (path, DEFAULT if is_board else language)
         kept = self.kept.page(name, shown, lambda: self.lists[path](self.cache.now, language))
-        policy = POLICY_OF_BOARD if is_board else POLICY
-        return Reply(200, kept.body, policy=policy, gzipped=kept.gzipped)
+        reply = Reply(200, kept.body, gzipped=kept.gzipped)
+        return self.as_board(reply) if is_board else reply
+
+    def as_board(self, reply: Reply) -> Reply:
+        """It has a script, which takes from the head what time it is here."""
+        from companions.sheets.page import policy
+
+        sent_at = formatdate(time.time(), usegmt=True)
+        return replace(
+            reply,
+            policy=f"{policy()}; frame-ancestors 'none'",
+            more=[("Last-Modified", sent_at), ("Cache-Control", "no-store")],
+        )
 
     def pairings(self, snapshot: Snapshot, language: str) -> bytes:
         rows = [row_of(snapshot, player) for player in snapshot.by_name if player.number in snapshot.matches]
@@ -304,12 +315,11 @@ class Site(Pages):
         return self.page("standings.html", language, rows=rows, number=number, records=records).body
 
     def board(self, snapshot: Snapshot, _language: str) -> bytes:
-        """The board of the sheets. It reloads itself, and shows all its parts."""
-        from companions.sheets.page import Board, foot_of, notes_of, page_of, parts_of_board
+        """The board of the sheets, as `event-sheets --board` has it."""
+        from companions.sheets.page import board_of, page_of, parts_of_board
 
-        event, clock = snapshot.event, self.cache.clock
-        shown = clock.shown(time.time()) if clock else ""
-        board = Board(None, shown, foot_of(event, self.secret), notes_of(event))
+        event = snapshot.event
+        board = board_of(event, self.cache.clock, self.secret, is_sent=True)
         return page_of(event, snapshot.title, snapshot.number, parts_of_board(event), board).encode("utf-8")
 
     # ---- codes

@@ -1,48 +1,52 @@
 """How large the letters of a board are, and in how many columns a list stands: a wall shows all of it in one
-look.
+look, unless letters would be too small for a wall.
 """
 from __future__ import annotations
 
 import math
-from dataclasses import dataclass
+from dataclasses import dataclass, replace
 from typing import Iterator, Optional, Tuple
 
 from companions.sheets.parts import Part
 from companions.sheets.widths import width_of
 
-# a screen of 16 by 9, in hundredths of its width, without the margins and the foot, and with room for the
-# clock and for columns that a browser fills unevenly
-WIDTH, HEIGHT = 97.0, 46.0
+# a screen of 16 by 9, in hundredths of its width, without the margins, the band and the foot, and with room for
+# columns that a browser fills unevenly
+WIDTH, HEIGHT = 96.0, 39.5
 # of the room for a name, what is counted on: letters are a little wider than estimated here and there
 FILLED = 0.95
-# in heights of a letter: between two columns, of a line, around a row, and of the heading
-GAP, LINE, AROUND, HEADING = 1.6, 1.25, 0.3, 2.4
-# and of the line beneath it that says how the round was drawn
+# in heights of a letter: between two columns, of a line, around a row
+GAP, LINE, AROUND = 2.2, 1.25, 0.35
+# and of the line that says how the round was drawn
 DRAWN = 1.3
-SIZES = (1.9, 1.75, 1.6, 1.45, 1.3, 1.15, 1.0, 0.9, 0.8, 0.7, 0.6)
-MOST_COLUMNS = 8
+SIZES = (2.4, 2.2, 2.05, 1.9, 1.75, 1.6, 1.45, 1.3, 1.2, 1.1, 1.0, 0.9, 0.8)
+# of a list that takes several looks all the same, the largest one
+SIZE_OF_SEVERAL = 0.9
+MOST_COLUMNS = 6
 # of a row: the room that is not for names, and how many names stand side by side
 ROOMS = {
-    "players": (4.2, 1), "names": (6.0, 2), "tables": (12.4, 2), "standings": (9.4, 1), "seats": (7.6, 1),
-    "final": (8.2, 1),
+    "players": (4.2, 1), "names": (6.6, 2), "tables": (13.0, 2), "standings": (9.8, 1), "seats": (7.6, 1),
+    "final": (8.6, 1),
 }
 # and for the record beside a name, and for percentages, which are as large as names or are left out
 RECORD, SHARES = 3.2, 12.3
 # as small as the letters of standings may be for the sake of percentages
-LEAST_WITH_SHARES = 1.3
+LEAST_WITH_SHARES = 1.1
 
 Names = Tuple[str, ...]
 
 
 @dataclass(frozen=True)
 class Layout:
-    """The size of the letters, in hundredths of the screen's width, and the number of columns; of standings,
-    whether there is room for the percentages.
+    """The size of the letters, in hundredths of the screen's width, the number of columns, and how many rows
+    each has; of standings, whether there is room for the percentages; and whether one look shows all.
     """
 
     size: float
     columns: int
     has_shares: bool = True
+    rows: int = 0
+    is_whole: bool = True
 
 
 def rows_of(part: Part) -> list[Names]:
@@ -81,33 +85,54 @@ def heights_of(rows: list[Names], room: float, may_break: bool) -> Optional[list
     return heights
 
 
-def fits(rows: list[Names], part: Part, layout: Layout, may_break: bool) -> bool:
+def room_for(part: Part, layout: Layout) -> float:
+    """For each name of a row."""
     others, side_by_side = ROOMS[part.kind]
     others += side_by_side * RECORD if part.records else 0.0
     others += SHARES if part.standings and layout.has_shares else 0.0
     width = WIDTH / layout.size
-    room = ((width - (layout.columns - 1) * GAP) / layout.columns - others) / side_by_side * FILLED
-    if room <= 0:
-        return False
-    heights = heights_of(rows, room, may_break)
+    return ((width - (layout.columns - 1) * GAP) / layout.columns - others) / side_by_side * FILLED
+
+
+def height_for(part: Part, layout: Layout) -> float:
+    """For the rows of a column."""
+    above = (DRAWN if part.drawn else 0.0) + (LINE if part.standings else 0.0)
+    return HEIGHT / layout.size - above
+
+
+def heights_in(rows: list[Names], part: Part, layout: Layout, may_break: bool) -> Optional[list[float]]:
+    room = room_for(part, layout)
+    return heights_of(rows, room, may_break) if room > 0 else None
+
+
+def fits(rows: list[Names], part: Part, layout: Layout, may_break: bool) -> bool:
+    heights = heights_in(rows, part, layout, may_break)
     if heights is None:
         return False
     # columns are of rows that stay whole, so one may be a row longer than the others
     tallest = sum(heights) / layout.columns + (max(heights) if layout.columns > 1 else 0.0)
-    above = HEADING + (DRAWN if part.drawn else 0.0) + (LINE if part.standings else 0.0)
-    return (tallest + above) * layout.size <= HEIGHT
+    return tallest <= height_for(part, layout)
 
 
 def layout_of(part: Part) -> Optional[Layout]:
-    """The largest letters with which all of a list is seen; where no size is small enough, the smallest."""
+    """The largest letters with which all of a list is seen in one look; else those of several looks."""
     rows = rows_of(part)
     if part.kind not in ROOMS or not rows:
         return None
     for may_break in (False, True):
         found = next((layout for layout in choices_for(part) if fits(rows, part, layout, may_break)), None)
         if found:
-            return found
-    return Layout(SIZES[-1], MOST_COLUMNS // 2, not part.standings)
+            return replace(found, rows=math.ceil(len(rows) / found.columns))
+    return layout_of_several(rows, part)
+
+
+def layout_of_several(rows: list[Names], part: Part) -> Layout:
+    """As many columns as show the most in a look."""
+    layouts = [Layout(SIZE_OF_SEVERAL, it, not part.standings) for it in range(1, MOST_COLUMNS + 1)]
+    found = [(layout, heights_in(rows, part, layout, layout.columns == 1)) for layout in layouts]
+    whole = [(layout, heights) for layout, heights in found if heights]
+    layout, heights = max(whole, key=lambda it: it[0].columns / sum(it[1]), default=(layouts[0], [LINE + AROUND]))
+    return replace(layout, rows=max(1, int(height_for(part, layout) / max(heights))), is_whole=False)
 
 
 def choices_for(part: Part) -> Iterator[Layout]:

@@ -21,7 +21,7 @@ from companions.sheets.files import (
     write_page,
 )
 from companions.sheets.making import PACKAGE, Wanted, page_maker
-from companions.sheets.parts import PARTS, SECONDS_TO_RELOAD
+from companions.sheets.parts import PARTS
 from companions.turn import Turn
 
 COMMAND = "event-sheets"
@@ -80,8 +80,7 @@ class Watch:
 
     def go_on(self) -> None:
         while True:
-            # the board shows its next part, and its clock, as time goes on
-            now = self.source.stamp(), stamps_beside(self.file), int(time.time() // SECONDS_TO_RELOAD)
+            now = self.source.stamp(), stamps_beside(self.file)
             if now != self.stamp:
                 self.look(now)
             time.sleep(SECONDS_BETWEEN_LOOKS)
@@ -130,7 +129,7 @@ def parser() -> argparse.ArgumentParser:
     add(
         "--board",
         action="store_true",
-        help="for a screen: large, and reloading itself every 20 seconds; with --watch its parts in turn",
+        help="for a screen: large, with a clock that counts down; it shows its parts in turn",
     )
     where = words.add_mutually_exclusive_group()
     where.add_argument(
@@ -166,9 +165,8 @@ def source_for(words: argparse.Namespace) -> Source:
 
 
 def wanted_by(words: argparse.Namespace) -> Wanted:
-    by_first, is_watched = words.by == "first", bool(words.watch)
     which = words.parts, words.round, words.tables, words.players
-    return Wanted(words.file, *which, words.title, by_first, words.board, is_watched)
+    return Wanted(words.file, *which, words.title, words.by == "first", words.board)
 
 
 def page_for(words: argparse.Namespace) -> str:

@@ -1,7 +1,6 @@
 """What makes a page of an event: for the command line, and for the prompt."""
 from __future__ import annotations
 
-import time
 from dataclasses import dataclass
 from typing import Callable, Optional, Sequence
 
@@ -42,9 +41,8 @@ class Wanted:
     title: Optional[str] = None
     # lists by name: by the first name in place of the last
     by_first: bool = False
-    # a page for the screen; and one that is written again and again
+    # a page for the screen
     is_board: bool = False
-    is_watched: bool = False
     # where nothing is there of what is asked for, it is said
     may_be_empty: bool = True
 
@@ -71,18 +69,10 @@ def kinds_now(event: Event, names_a_round: bool = False) -> list[str]:
 
 def page_maker(wanted: Wanted) -> Callable[[Event], str]:
     """What makes the page of an event as it is. Jinja2 is loaded here, so that all else goes without."""
-    from companions.sheets.page import Board, foot_of, notes_of, parts_for, parts_of_board, rendered, turn_now
+    from companions.sheets.page import board_of, parts_for, parts_of_board, rendered
     from companions.sheets.parts import SlipsFor
 
-    def board(event: Event) -> Optional[Board]:
-        """A page that is written again and again shows its parts in turn, and the minutes that are left."""
-        if not wanted.is_board:
-            return None
-        clock, now = kept_clock(wanted.file), time.time()
-        foot = foot_of(event, kept_secret(wanted.file))
-        if not wanted.is_watched:
-            return Board(None, f"until {clock.ends_at()}" if clock else "", foot)
-        return Board(turn_now(now), clock.shown(now) if clock else "", foot, notes_of(event))
+    file = wanted.file
 
     def make(event: Event) -> str:
         number = number_of(wanted, event)
@@ -90,11 +80,12 @@ def page_maker(wanted: Wanted) -> Callable[[Event], str]:
         kinds = wanted.parts or default
         if wanted.is_board and "links" in kinds:
             raise Declined("Links are for their players alone, and not for a screen.")
-        slips = SlipsFor(wanted.tables, kept_secret(wanted.file), wanted.players)
+        slips = SlipsFor(wanted.tables, kept_secret(file), wanted.players)
         parts = parts_for(event, number, kinds, slips, wanted.by_first)
         if not parts and not wanted.may_be_empty:
             raise Declined(NOTHING.get(kinds[0], "There is nothing to print yet."))
-        title = shown_text(wanted.title) if wanted.title else title_of(wanted.file, event.source.turn)
-        return rendered(parts, title, number, board(event))
+        title = shown_text(wanted.title) if wanted.title else title_of(file, event.source.turn)
+        board = board_of(event, kept_clock(file), kept_secret(file)) if wanted.is_board else None
+        return rendered(parts, title, number, board)
 
     return make

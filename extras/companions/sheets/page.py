@@ -1,20 +1,24 @@
 """The page: parts in a template, which escapes each text that it is given."""
 from __future__ import annotations
 
+import base64
+import hashlib
 import os
+import time
 from dataclasses import dataclass, replace
 from functools import lru_cache
 from typing import Iterable, Optional
 
 from jinja2 import Environment, FileSystemLoader, StrictUndefined
+from markupsafe import Markup
 
+from companions.clock import Clock
 from companions.codes import Secret
 from companions.drawn import shut_now
 from companions.event import Event
 from companions.notes import Note, Notes
 from companions.sheets.board import layout_of
 from companions.sheets.parts import (
-    SECONDS_TO_RELOAD,
     SLIP_LETTERS,
     Part,
     Reach,
@@ -25,15 +29,36 @@ from companions.sheets.parts import (
 )
 from companions.wording import counted, ranges
 
-# the letters of the clock and of the bracket's heading, in hundredths of the screen's width
-BOARD_LETTERS = 1.5
+FOLDER = os.path.join(os.path.dirname(os.path.abspath(__file__)), "templates")
+# so many tables that still play are named beneath a board
+MOST_STILL = 30
+# a board loads itself again so often
+SECONDS_TO_RELOAD = 20
+
+
+@lru_cache(maxsize=None)
+def script() -> str:
+    """The board's own: the clock counts down, and its parts are shown in turn."""
+    with open(os.path.join(FOLDER, "board.js"), encoding="utf-8") as text:
+        return text.read()
+
+
+@lru_cache(maxsize=None)
+def policy() -> str:
+    """What a board may load: nothing but its own style, its own script by its hash, and pictures inside."""
+    # as it stands between the tags, see page.html
+    between = f"\n{script()}".encode()
+    digest = base64.b64encode(hashlib.sha256(between).digest()).decode()
+    return (
+        f"default-src 'none'; style-src 'unsafe-inline'; script-src 'sha256-{digest}'; img-src data:; "
+        "form-action 'none'; base-uri 'none'"
+    )
 
 
 @lru_cache(maxsize=None)
 def templates() -> Environment:
-    folder = os.path.join(os.path.dirname(os.path.abspath(__file__)), "templates")
     environment = Environment(
-        loader=FileSystemLoader(folder),
+        loader=FileSystemLoader(FOLDER),
         autoescape=True,
         undefined=StrictUndefined,
         trim_blocks=True,
@@ -76,8 +101,11 @@ class Playing:
         if not self.still:
             return "All scores are in."
         have = "has" if self.finished == 1 else "have"
-        finished = f"{self.finished} of {counted(self.tables, 'table')} {have} finished"
-        return f"{finished}. Still playing: {ranges([*self.still])}"
+        finished = f"{self.finished} of {counted(self.tables, 'table')} {have} finished."
+        # more than a look has room for is of no use yet
+        if len(self.still) > MOST_STILL:
+            return finished
+        return f"{finished} Still playing: {ranges([*self.still])}"
 
 
 @dataclass(frozen=True)
@@ -93,15 +121,21 @@ class Foot:
 
 @dataclass(frozen=True)
 class Board:
-    """How a page is shown on a screen: which part is shown now, one after the other, or all of them; the
-    clock; and what stands beneath.
-    """
+    """What a page for a screen has besides: the clock, and what stands beneath each part."""
 
-    turn: Optional[int] = None
-    clock: str = ""
+    clock: Optional[Clock] = None
+    # which round it is
+    where: str = ""
     foot: Foot = Foot()
     # what the scorekeeper notes of tables
     notes: tuple[Note, ...] = ()
+    # whether it is sent to another machine, whose clock may go otherwise
+    is_sent: bool = False
+
+    @property
+    def nobody_finished(self) -> bool:
+        playing = self.foot.playing
+        return playing is not None and playing.finished == 0 and bool(playing.still)
 
 
 def foot_of(event: Event, secret: Optional[Secret]) -> Foot:
@@ -135,9 +169,15 @@ def notes_of(event: Event) -> tuple[Note, ...]:
     return tuple(Notes(event.file).of_round(len(event.rounds), event.newest()))
 
 
-def turn_now(now: float) -> int:
-    """The number of the reload: each one shows the next part."""
-    return int(now // SECONDS_TO_RELOAD)
+def board_of(event: Event, clock: Optional[Clock], secret: Optional[Secret], is_sent: bool = False) -> Board:
+    return Board(clock, where_in(event), foot_of(event, secret), notes_of(event), is_sent)
+
+
+def where_in(event: Event) -> str:
+    number, plan = len(event.rounds), event.plan
+    if event.stages or not number:
+        return "Playoff" if event.stages else ""
+    return f"Round {number} of {plan.rounds}" if plan else f"Round {number}"
 
 
 def parts_for(
@@ -161,8 +201,9 @@ def rendered(parts: list[Part], title: str, number: int, board: Optional[Board] 
         round=number,
         parts=parts,
         board=board,
-        letters=BOARD_LETTERS,
-        shown_part=parts[board.turn % len(parts)].kind if board and board.turn is not None and parts else "",
+        policy=policy() if board else "",
+        script=Markup(script()) if board else "",
+        now=time.time(),
         seconds=SECONDS_TO_RELOAD,
         slip_letters=SLIP_LETTERS,
     )

@@ -26,8 +26,6 @@ SLIPS_A_SHEET = 5
 SLIP_LETTERS, SLIP_ROOM, SLIP_LINES = 11.5, 66, 2
 # the same beside a code, which takes a part of the slip
 ROOM_BESIDE_A_CODE = 46
-# a board loads itself again so often, and shows its next part
-SECONDS_TO_RELOAD = 20
 
 
 @dataclass(frozen=True)
@@ -135,6 +133,8 @@ class Part:
 
     kind: str
     what: str = ""
+    # what a board says of it beside the round, if that is something else
+    label: str = ""
     tables: tuple[TableRow, ...] = ()
     names: tuple[NameRow, ...] = ()
     stacks: tuple[tuple[Slip, ...], ...] = ()
@@ -210,7 +210,8 @@ def tables_part(event: Event, number: int) -> Part:
     rows = tuple(table_row(event, match) for match in event.shown_rounds[number - 1])
     records = records_before(event, number)
     drawn = drawn_line(event, number)
-    return Part("tables", f"Round {number}, by table", tables=rows, drawn=drawn, records=records)
+    what, label = f"Round {number}, by table", "pairings by table"
+    return Part("tables", what, label, tables=rows, drawn=drawn, records=records)
 
 
 def seated(event: Event, row: NameRow, match: Match) -> NameRow:
@@ -224,8 +225,8 @@ def names_part(event: Event, number: int, by_first: bool, reach: Optional[Reach]
     rows = [seated(event, row, matches[row.player.number]) for row in name_rows(who_sits, by_first)]
     records = records_before(event, number)
     drawn = drawn_line(event, number)
-    what = f"Round {number}, by name"
-    return Part("names", what, names=tuple(rows), drawn=drawn, records=records, reach=reach)
+    what, label = f"Round {number}, by name", f"pairings by {'first' if by_first else 'last'} name"
+    return Part("names", what, label, names=tuple(rows), drawn=drawn, records=records, reach=reach)
 
 
 def codes_of(event: Event, number: int, match: Match, secret: Secret) -> tuple[Code, ...]:
@@ -326,7 +327,7 @@ def last_in(event: Event) -> int:
 
 
 def bracket_part(event: Event) -> Optional[Part]:
-    return Part("bracket", "Playoff", drawing=Tree(event).drawn()) if event.stages else None
+    return Part("bracket", "Playoff", "bracket", drawing=Tree(event).drawn()) if event.stages else None
 
 
 def final_part(event: Event) -> Optional[Part]:

@@ -1,0 +1,106 @@
+"use strict";
+// The board in front of all: the clock counts down, and what doesn't fit one look is turned.
+(() => {
+  const root = document.documentElement, body = document.body, data = body.dataset;
+  // a page that is kept for many says in its head when it was sent; a file is of this machine
+  const sent = "sent" in data ? Date.parse(document.lastModified) + 500 : NaN;
+  const ahead = Number.isNaN(sent) ? 0 : sent - Date.now();
+  const now = () => (Date.now() + ahead) / 1000;
+
+  // ---- the clock
+
+  const clock = document.querySelector(".clock");
+  const until = clock ? Number(clock.dataset.until) : 0;
+  const begun = clock ? until - 60 * Number(clock.dataset.minutes) : 0;
+  const AMBER = 600;
+
+  const inMinutes = seconds => `${Math.floor(seconds / 60)}:${String(seconds % 60).padStart(2, "0")}`;
+
+  const showClock = () => {
+    const left = Math.ceil(until - now());
+    clock.querySelector(".left").textContent = left > 0 ? inMinutes(left) : `+${inMinutes(Math.floor(now() - until))}`;
+    clock.querySelector(".hour").textContent = left > 0 ? clock.dataset.before : clock.dataset.after;
+    clock.classList.toggle("soon", left > 0 && left <= AMBER);
+    clock.classList.toggle("over", left <= 0);
+  };
+
+  // ---- the parts
+
+  // seconds of a look, of one of several of a part, and how long a round begins
+  const LOOK = 20, ONE_OF_SEVERAL = 10, BEGINNING = 300;
+  const wide = matchMedia("(min-width: 60em)");
+  const parts = [...document.querySelectorAll(".part")];
+  const names = parts.find(part => part.classList.contains("names"));
+
+  const scrollerOf = part => part.querySelector(".looks");
+  const gapOf = scroller => parseFloat(getComputedStyle(scroller).columnGap) || 0;
+  const step = scroller => scroller.clientWidth + gapOf(scroller);
+  const countOf = scroller => (scroller ? Math.ceil((scroller.scrollWidth + gapOf(scroller)) / step(scroller) - 0.01) : 1);
+
+  // letters may be wider here than they were counted on: then all of a list becomes a little smaller
+  const sizes = new Map(parts.map(part => [part, Number(part.style.getPropertyValue("--size"))]));
+  const LEAST = 0.75, SMALLER = 0.96;
+  const isCut = part => {
+    const scroller = scrollerOf(part);
+    return scroller.scrollHeight > scroller.clientHeight + 1 || ("whole" in part.dataset && countOf(scroller) > 1);
+  };
+  const fit = part => {
+    const size = sizes.get(part);
+    for (let at = size; size && at > LEAST * size; at *= SMALLER) {
+      part.style.setProperty("--size", at);
+      if (!isCut(part)) return;
+    }
+  };
+
+  const looksOf = part => {
+    fit(part);
+    const count = countOf(scrollerOf(part));
+    return Array.from({ length: count }, (_, at) => ({ part, at, seconds: count > 1 ? ONE_OF_SEVERAL : LOOK }));
+  };
+
+  // in the first minutes of a round everybody looks for a table
+  const isBeginning = () => names && (clock ? now() < begun + BEGINNING : "nobodyFinished" in data);
+
+  const lookAt = (looks, second) => {
+    let rest = second % looks.reduce((sum, look) => sum + look.seconds, 0);
+    return looks.find(look => (rest -= look.seconds) < 0) || looks[0];
+  };
+
+  let all = [];
+  const measure = () => {
+    root.classList.toggle("turns", wide.matches);
+    all = wide.matches ? parts.flatMap(looksOf) : [];
+  };
+
+  const showDots = (looks, shown) => {
+    const dots = document.querySelector(".dots");
+    if (dots) dots.textContent = looks.length > 1 ? looks.map(look => (look === shown ? "\u25cf" : "\u25cb")).join(" ") : "";
+  };
+
+  const showPart = () => {
+    if (!all.length) return;
+    const looks = isBeginning() ? all.filter(look => look.part === names) : all;
+    const shown = lookAt(looks, now());
+    for (const part of parts) part.classList.toggle("now", part === shown.part);
+    const scroller = scrollerOf(shown.part);
+    if (scroller) scroller.scrollLeft = shown.at * step(scroller);
+    showDots(looks, shown);
+  };
+
+  const show = () => {
+    if (clock) showClock();
+    showPart();
+  };
+
+  const tick = () => {
+    show();
+    setTimeout(tick, 1000 - ((now() * 1000) % 1000));
+  };
+
+  addEventListener("resize", () => {
+    measure();
+    show();
+  });
+  measure();
+  tick();
+})();
