@@ -14,7 +14,7 @@ from companions.copies import Copy
 from companions.files import copy_folder_synced, copy_synced, sync_folder
 
 # what the companions keep beside an event, and what a scorekeeper needs to go on from a copy
-BESIDE = ("keys", "names", "doubts", "title", "clock", "phones", "reports", "notes", "draws")
+BESIDE = ("keys", "names", "doubts", "title", "look", "clock", "phones", "reports", "notes", "draws")
 ANOTHER_DISK, SAME_DISK = "another disk", "the same disk"
 
 

@@ -6,7 +6,7 @@ _event_companions() {
         event-desk) options='--help --program --version' ;;
         event-phones) options='--help --at --listen --behind-proxy --both --one --from-one --desk --clock --title --program --version' ;;
         event-check) options='--help --who' ;;
-        event-sheets) options='--help --round --board --output --watch --parts --tables --players --by --title --program --version' ;;
+        event-sheets) options='--help --round --board --dark --output --watch --parts --tables --players --by --title --program --version' ;;
     esac
     case $before,$word in
         --round,* | --title,* | --who,*) ;;

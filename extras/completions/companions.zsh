@@ -27,6 +27,7 @@ given=(
     '--players[the links of these players alone]:players:'
     '--round[the round whose pairings and slips are shown]:round:'
     '--board[for a screen]'
+    '--dark[a dark board]'
     '(--watch -o --output)'{-o,--output}'[write the page to this file, once it is whole]:page:_files'
     '(-o --output)--watch[write the page to this file, again and again]:page:_files'
     '--parts[these parts alone]:parts:_values -s , part players draw tables names slips standings bracket final seats links champion'

@@ -4,6 +4,7 @@ complete -c event-sheets -l version -d 'the version of the program that is calle
 complete -c event-sheets -l program -r -F -d 'the event_reporter to call'
 complete -c event-sheets -l round -x -d 'the round whose pairings and slips are shown'
 complete -c event-sheets -l board -d 'for a screen'
+complete -c event-sheets -l dark -d 'a dark board'
 complete -c event-sheets -s o -l output -r -F -d 'write the page to this file, once it is whole'
 complete -c event-sheets -l watch -r -F -d 'write the page to this file, again and again'
 complete -c event-sheets -l parts -x -a 'players draw tables names slips standings bracket final seats links champion' -d 'these parts alone'

@@ -2,7 +2,19 @@
 from dataclasses import replace
 
 from companions.lists import Player
-from companions.sheets.board import AROUND, HEIGHT, LINE, SIZE_OF_SEVERAL, SIZES, WIDTH, layout_of, lines_in
+from companions.sheets.board import (
+    AROUND,
+    HEIGHT,
+    LINE,
+    SIZE_OF_SEVERAL,
+    SIZES,
+    WIDTH,
+    Layout,
+    filled,
+    in_columns,
+    layout_of,
+    lines_in,
+)
 from companions.sheets.parts import Part, name_rows
 from companions.sheets.widths import width_of
 
@@ -23,14 +35,21 @@ def test_more_players_have_smaller_letters():
 def test_all_rows_have_room():
     for count in (8, 37, 64):
         layout = layout_of(by_name([f"Ana Lima {at}" for at in range(count)]))
-        assert layout.rows == -(-count // layout.columns)
-        assert layout.rows * layout.size * (LINE + AROUND) <= HEIGHT and layout.columns * layout.size < WIDTH
+        assert layout.rows == (-(-count // layout.columns),) * layout.columns
+        assert layout.rows[0] * layout.size * (LINE + AROUND) <= HEIGHT and layout.columns * layout.size < WIDTH
 
 
 def test_a_list_that_is_too_long_takes_several_looks():
     layout = layout_of(by_name([f"Ana Lima {at}" for at in range(512)]))
-    assert layout.rows * layout.columns < 512
-    assert (layout.rows + 1) * layout.size * (LINE + AROUND) > HEIGHT >= layout.rows * layout.size * (LINE + AROUND)
+    rows = int(HEIGHT / layout.size / (LINE + AROUND))
+    assert not layout.is_whole and layout.rows == (rows,) * (512 // rows) + (512 % rows,) * (512 % rows > 0)
+
+
+def test_columns_are_filled_one_after_the_other():
+    assert filled([1, 1, 2, 1, 3, 9, 1], 4) == (3, 2, 1, 1)
+    assert in_columns("abcdefg", Layout(1, 3, rows=(3, 2, 1, 1))) == ["abc", "de", "f", "g"]
+    assert in_columns("abcde", Layout(1, 3, rows=(2, 2, 2))) == ["ab", "cd", "e"]
+    assert in_columns("abcd", Layout(1, 3, rows=(2, 2, 2))) == ["ab", "cd"]
 
 
 def test_a_name_is_broken_between_words():

@@ -11,6 +11,8 @@ pytest.importorskip("jinja2")
 from companions.clock import Clock
 from companions.codes import Secret, shown_code
 from companions.event import Event
+from companions.look import Look
+from companions.sheets.colours import DARK, LIGHT, PRINTED
 from companions.sheets.page import Board, Foot, Playing, board_of, page_of, parts_of_board, playing_in
 from companions.sheets.parts import (
     DEFAULT_PARTS,
@@ -21,6 +23,7 @@ from companions.sheets.parts import (
 )
 from from_model import FromModel
 from scripts.clients.random_evenings import COMPLETE, ENDED, ENROLLING, OPEN, STARTED, evening
+from scripts.models.plain_event import Event as Played
 from scripts.models.plain_page import Page
 
 
@@ -54,6 +57,34 @@ def test_the_board_has_one_script_and_a_policy_that_names_it(dice):
     assert said.attributes["content"].startswith("default-src 'none'; ")
     sheets = Page(page_of(Event(FromModel(event)), "Friday", 1, ("tables", "names"))).root
     assert sheets.of("script") == [] and [it for it in sheets.of("meta") if "http-equiv" in it.attributes] == []
+
+
+def test_the_look_of_an_event(dice):
+    """Subtitle and logo stand in the band, and beneath the heading of each sheet. A dark board is dark always."""
+    event = evening(dice, 9, COMPLETE, 3, 0)
+    read, look = Event(FromModel(event)), Look("<Owls> & more", "#b33a00", "data:image/png;base64,AAAA", True)
+    board_text = page_of(read, "Friday", 1, parts_of_board(read), Board(), look=look)
+    root = Page(board_text).root
+    assert root.one("p", "subtitle") == "<Owls> & more" and len(root.of("span", "logo")) == 1
+    assert board_text.count("base64,AAAA") == 1 and f"--paper: {DARK['paper']}" in board_text
+    assert "prefers-color-scheme" not in board_text and "--accent: #b33a00" in board_text
+    sheets_text = page_of(read, "Friday", 1, ("tables", "names"), look=look)
+    root = Page(sheets_text).root
+    assert [it.text() for it in root.of("span", "subtitle")] == ["<Owls> & more"] * 2
+    assert [len(it.text()) for it in root.of("span", "made")] == [len("printed 2026-11-30 20:45")] * 2
+    assert sheets_text.count("base64,AAAA") == 1 and f"--paper: {PRINTED['paper']}" in sheets_text
+    # by itself a board is light, and dark where the device is
+    plain = page_of(read, "Friday", 1, parts_of_board(read), Board())
+    assert f"--paper: {LIGHT['paper']}" in plain and "prefers-color-scheme: dark" in plain
+
+
+@pytest.mark.parametrize("count, is_so", [(28, False), (29, True), (45, True), (46, False)])
+def test_rows_stand_close_where_they_fit_one_page_so(count, is_so):
+    event = Played(3, 0)
+    for number in range(count):
+        event.enrol(f"P{number}")
+    (part,) = Page(page_of(Event(FromModel(event)), "Friday", 0, ("players",))).root.of("section", "part")
+    assert ("close" in part.kinds()) == is_so
 
 
 def test_a_board_stays_on_the_names_while_nobody_has_finished(dice):

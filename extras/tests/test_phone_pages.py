@@ -28,6 +28,7 @@ from companions.notes import Notes
 from companions.plan import Plan
 from companions.reports import OTHER, STORED, WRONG, Reports, judge_call
 from companions.score import Score
+from contrasts import contrast
 from from_model import FromModel
 from scripts.clients.random_evenings import COMPLETE, ENDED, ENROLLING, HOSTILE, IN_PLAYOFF, OPEN, STARTED, evening
 from scripts.models import plain_page
@@ -346,19 +347,6 @@ def test_each_page_has_a_title_of_its_own(room):
 
 def test_letters_are_of_the_size_that_the_phone_is_set_to():
     assert "font: 112.5%/1.35" in style().decode() and "nowrap" not in style().decode()
-
-
-def luminance(colour):
-    """Of WCAG 2.2, relative luminance."""
-    digits = colour[1:] if len(colour) == 7 else "".join(2 * digit for digit in colour[1:])
-    parts = [int(digits[at : at + 2], 16) / 255 for at in (0, 2, 4)]
-    linear = [part / 12.92 if part <= 0.04045 else ((part + 0.055) / 1.055) ** 2.4 for part in parts]
-    return 0.2126 * linear[0] + 0.7152 * linear[1] + 0.0722 * linear[2]
-
-
-def contrast(one, other):
-    light, dark = sorted((luminance(one), luminance(other)), reverse=True)
-    return (light + 0.05) / (dark + 0.05)
 
 
 def test_contrast_is_that_of_level_aa_in_light_and_dark():

@@ -125,6 +125,14 @@ def test_what_is_declined_leaves_the_page_before(tmp_path, dice, way, rest, said
     assert session.said == []
 
 
+def test_what_is_wrong_in_the_look_is_said(tmp_path, dice):
+    session = Session(tmp_path, evening(dice, 9, OPEN, 3, 4))
+    with open(f"{session.file}.look", "w") as look:
+        look.write("accent = red\n")
+    Printing(session).print("standings")
+    assert session.said[2:] == [f'{session.file}.look, line 1: It is no colour, as: accent = "#b33a00"']
+
+
 def test_where_it_can_not_be_written(tmp_path, dice):
     session = Session(tmp_path, evening(dice, 9, OPEN, 3, 4))
     os.mkdir(f"{session.file}.sheets.html")

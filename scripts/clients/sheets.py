@@ -1,6 +1,7 @@
 """The sheets and the board, `extras/event-sheets`, over the program as it is built."""
 import os
 import pty
+import re
 import subprocess
 import sys
 
@@ -11,6 +12,11 @@ BROWSERS = "chromium", "chromium-browser", "google-chrome"
 BEFORE = "<p>the page before</p>\n"
 # without any package beside
 BARE = sys.executable, "-S", "-B"
+
+
+def timeless(text):
+    """A page, or what was printed, without the time at which it was made."""
+    return re.sub(r"printed \d{4}-\d\d-\d\d \d\d:\d\d", "printed", text)
 
 
 class Sheets:
@@ -26,7 +32,7 @@ class Sheets:
         """The status, the output and the errors, where the output is no terminal."""
         line = self.words(*words, python=python)
         ran = subprocess.run(line, cwd=self.room, stdin=subprocess.DEVNULL, capture_output=True, timeout=PATIENCE, **how)
-        return ran.returncode, ran.stdout.decode(), ran.stderr.decode()
+        return ran.returncode, timeless(ran.stdout.decode()), ran.stderr.decode()
 
     def at_a_terminal(self, *words):
         """The status, and what is said there."""
@@ -40,7 +46,7 @@ class Sheets:
                 said += os.read(master, 65536)
         except OSError:
             os.close(master)
-        return os.WEXITSTATUS(os.waitpid(child, 0)[1]), said.decode().replace("\r\n", "\n")
+        return os.WEXITSTATUS(os.waitpid(child, 0)[1]), timeless(said.decode().replace("\r\n", "\n"))
 
     def watching(self, *words):
         """A process that keeps a page up to date."""
@@ -48,7 +54,7 @@ class Sheets:
 
     def read(self, name):
         with open(f"{self.room}/{name}", encoding="utf-8", newline="") as page:
-            return page.read()
+            return timeless(page.read())
 
     def lay(self, name):
         with open(f"{self.room}/{name}", "w", encoding="utf-8") as page:

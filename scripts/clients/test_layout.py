@@ -136,6 +136,31 @@ def test_on_paper(sheets, program, room, event, browser, kind):
         check_paper(f"on {size}", Paper(browser, room, text, size), event, size, parts)
 
 
+@pytest.mark.needs("sheets on paper", command=BROWSERS)
+@pytest.mark.needs("sheets on paper", command="pdftotext")
+@pytest.mark.parametrize("players, pages", [(45, 1), (46, 2)])
+def test_a_list_by_name_on_one_page(sheets, program, room, dice, browser, players, pages):
+    """With all that may stand above it: the subtitle, how the round was drawn, and where phones are served. Each page has its number, and the time."""
+    event = evening(dice, players, STARTED, 3, 0)
+    event.pair(1, bytes(32))
+    for table in range(1, players // 2 + 1):
+        event.report(1, table, (2, 0, 0), True)
+    event.pair(2, bytes(32))
+    file = laid(program.path, f"{room}/e.event", event, "E")
+    with open(f"{file}.phones", "w") as it:
+        it.write(f"at http://192.168.1.10:8080\nkey {'0' * 64}\nboth no\n")
+    with open(f"{file}.look", "w") as it:
+        it.write("subtitle = Modern, Owls Game Shop\n")
+    # as it is printed, with its time
+    text = subprocess.run(sheets.words(file, "--parts", "names"), stdout=subprocess.PIPE, timeout=PATIENCE, check=True).stdout.decode()
+    for size in SIZES:
+        paper = Paper(browser, room, text, size)
+        assert (len(paper.sheets), paper.outside()) == (pages, []), size
+        for number, sheet in enumerate(paper.sheets, 1):
+            assert f"{number}/{pages}" in sheet and re.search(r"printed \d{4}-\d\d-\d\d \d\d:\d\d", sheet), size
+            assert "Modern, Owls Game Shop" in sheet, size
+
+
 # ---- the screen
 
 # what a browser says of the layout of a board, with each part in its turn: of each name the lines that it takes, how far down and across it goes, how small

@@ -293,6 +293,19 @@ def test_titles(sheets, program, room):
     assert headed("--title", "Sunday") == ("Sunday", "Players: 1"), "titled by the words"
 
 
+@pytest.mark.needs("sheets and boards", module="jinja2", package="python3-jinja2")
+def test_look(sheets, program, room, dice):
+    """What FILE.look says stands on the page; what is wrong there is said, and the page is made all the same."""
+    file = laid(program.path, f"{room}/e.event", evening(dice, 9, OPEN, 3, 0), "E")
+    with open(f"{file}.look", "w", encoding="utf-8") as it:
+        it.write('subtitle = "Owls & <Friends>"\nlogo = "none.png"\n')
+    fault = f"event-sheets: {file}.look, line 2: There is no none.png beside the event that can be read.\n"
+    for words in ((file,), (file, "--board", "--dark")):
+        status, text, errors = sheets.printed(*words)
+        assert (status, errors, "Owls &amp; &lt;Friends&gt;" in text) == (0, fault, True), words
+    assert "color-scheme: dark;" in text, "dark in any case"
+
+
 def test_without_jinja(sheets, room):
     """Jinja2 makes the pages: where it isn't installed, the package is named."""
     status, text, errors = sheets.printed(f"{room}/e.event", python=BARE)

@@ -184,8 +184,8 @@ class EventCache:
 
     def stamp_now(self) -> tuple[Optional[Stamp], tuple[float, ...]]:
         """What changes with each command, and with what lies beside FILE and is shown."""
-        beside = (f"{self.file}{ending}" for ending in (".doubts", ".names", ".title", ".notes", ".draws"))
-        return self.source.stamp(), tuple(map(time_of, beside))
+        endings = ".doubts", ".names", ".title", ".notes", ".draws", ".look"
+        return self.source.stamp(), tuple(time_of(f"{self.file}{ending}") for ending in endings)
 
     def show(self) -> None:
         """The snapshot with the scores that were answered since it was read."""

@@ -16,6 +16,7 @@ from companions.drawn import rule_of_event, shut_now, text_of_round
 from companions.draws import Draws
 from companions.entries import Entries, NotEntered
 from companions.lists import Match, Player
+from companions.look import look_of
 from companions.names import found_by
 from companions.phones.asked import Asked, Environ, Pages, Settled, score_in, score_of
 from companions.phones.at_table import AtTable, Link, Typed, drops_in, link_in, said_in, typed_in
@@ -320,7 +321,8 @@ class Site(Pages):
 
         event = snapshot.event
         board = board_of(event, self.cache.clock, self.secret, is_sent=True)
-        return page_of(event, snapshot.title, snapshot.number, parts_of_board(event), board).encode("utf-8")
+        kinds, look = parts_of_board(event), look_of(self.cache.file)
+        return page_of(event, snapshot.title, snapshot.number, kinds, board, look=look).encode("utf-8")
 
     # ---- codes
 

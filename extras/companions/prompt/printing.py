@@ -6,6 +6,7 @@ import re
 import shutil
 import subprocess
 
+from companions.look import look_of
 from companions.names import visible
 from companions.program import Declined
 from companions.prompt.session import Session
@@ -79,6 +80,7 @@ class Printing:
         wanted, path = wanted_by(session.file, rest), page_beside(session.file)
         must_write(path, self.page_of(wanted))
         session.say(f"Written: {visible(path)}", OPENED if opens(path) else NEXT_OF_SHEETS)
+        session.say(*look_of(session.file).faults)
 
     def page_of(self, wanted: Wanted) -> str:
         session = self.session

@@ -3,9 +3,10 @@ look, unless letters would be too small for a wall.
 """
 from __future__ import annotations
 
+import itertools
 import math
 from dataclasses import dataclass, replace
-from typing import Iterator, Optional, Tuple
+from typing import Iterator, Optional, Sequence, Tuple, TypeVar
 
 from companions.sheets.parts import Part
 from companions.sheets.widths import width_of
@@ -34,6 +35,7 @@ RECORD, SHARES = 3.2, 12.3
 LEAST_WITH_SHARES = 1.1
 
 Names = Tuple[str, ...]
+Row = TypeVar("Row")
 
 
 @dataclass(frozen=True)
@@ -45,7 +47,7 @@ class Layout:
     size: float
     columns: int
     has_shares: bool = True
-    rows: int = 0
+    rows: tuple[int, ...] = ()
     is_whole: bool = True
 
 
@@ -122,7 +124,8 @@ def layout_of(part: Part) -> Optional[Layout]:
     for may_break in (False, True):
         found = next((layout for layout in choices_for(part) if fits(rows, part, layout, may_break)), None)
         if found:
-            return replace(found, rows=math.ceil(len(rows) / found.columns))
+            in_each = math.ceil(len(rows) / found.columns)
+            return replace(found, rows=(in_each,) * found.columns)
     return layout_of_several(rows, part)
 
 
@@ -132,7 +135,23 @@ def layout_of_several(rows: list[Names], part: Part) -> Layout:
     found = [(layout, heights_in(rows, part, layout, layout.columns == 1)) for layout in layouts]
     whole = [(layout, heights) for layout, heights in found if heights]
     layout, heights = max(whole, key=lambda it: it[0].columns / sum(it[1]), default=(layouts[0], [LINE + AROUND]))
-    return replace(layout, rows=max(1, int(height_for(part, layout) / max(heights))), is_whole=False)
+    return replace(layout, rows=filled(heights, height_for(part, layout)), is_whole=False)
+
+
+def filled(heights: list[float], room: float) -> tuple[int, ...]:
+    """How many rows each column has, one after the other."""
+    counts, used = [0], 0.0
+    for height in heights:
+        if counts[-1] and used + height > room:
+            counts, used = [*counts, 0], 0.0
+        counts[-1] += 1
+        used += height
+    return tuple(counts)
+
+
+def in_columns(rows: Sequence[Row], layout: Layout) -> list[Sequence[Row]]:
+    ends = list(itertools.accumulate(layout.rows))
+    return [rows[begin:end] for begin, end in zip([0, *ends], ends) if rows[begin:end]]
 
 
 def choices_for(part: Part) -> Iterator[Layout]:

@@ -9,6 +9,7 @@ from typing import Callable, Optional
 
 from companions.arguments import add_program, tables_word
 from companions.event import Event
+from companions.look import look_of
 from companions.names import visible
 from companions.program import Declined, Source, ready
 from companions.reading import NoRound, Unread, read_whole
@@ -29,7 +30,7 @@ PURPOSE = "sheets for the wall and a board for the screen, of an event of event_
 
 SECONDS_BETWEEN_LOOKS = 1.0
 # what lies beside FILE and shows on a page
-BESIDE = (".doubts", ".title", ".clock", ".names", ".phones", ".notes", ".draws")
+BESIDE = (".doubts", ".title", ".clock", ".names", ".phones", ".notes", ".draws", ".look")
 
 HELP = """\
 Writes one HTML page with the sheets of an event: pairings by table and by name,
@@ -131,6 +132,7 @@ def parser() -> argparse.ArgumentParser:
         action="store_true",
         help="for a screen: large, with a clock that counts down; it shows its parts in turn",
     )
+    add("--dark", action="store_true", help="a dark board, as in a dark room")
     where = words.add_mutually_exclusive_group()
     where.add_argument(
         "-o",
@@ -166,7 +168,7 @@ def source_for(words: argparse.Namespace) -> Source:
 
 def wanted_by(words: argparse.Namespace) -> Wanted:
     which = words.parts, words.round, words.tables, words.players
-    return Wanted(words.file, *which, words.title, words.by == "first", words.board)
+    return Wanted(words.file, *which, words.title, words.by == "first", words.board, words.dark)
 
 
 def page_for(words: argparse.Namespace) -> str:
@@ -186,6 +188,8 @@ def run(words: argparse.Namespace) -> int:
     source, page = source_for(words), page_for(words)
     if page:
         must_be_for_pages(page, words.file)
+    for fault in look_of(words.file).faults:
+        print(f"{COMMAND}: {fault}", file=sys.stderr)
     if words.watch:
         Watch(source, words.file, page, make).go_on()
     text = read_whole(source, words.file, make)

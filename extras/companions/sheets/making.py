@@ -1,12 +1,13 @@
 """What makes a page of an event: for the command line, and for the prompt."""
 from __future__ import annotations
 
-from dataclasses import dataclass
+from dataclasses import dataclass, replace
 from typing import Callable, Optional, Sequence
 
 from companions.clock import kept_clock
 from companions.codes import kept_secret
 from companions.event import Event
+from companions.look import look_of
 from companions.program import Declined
 from companions.reading import NoRound
 from companions.sheets.parts import DEFAULT_PARTS
@@ -41,8 +42,9 @@ class Wanted:
     title: Optional[str] = None
     # lists by name: by the first name in place of the last
     by_first: bool = False
-    # a page for the screen
+    # a page for the screen; and a dark one, whatever FILE.look says
     is_board: bool = False
+    is_dark: bool = False
     # where nothing is there of what is asked for, it is said
     may_be_empty: bool = True
 
@@ -86,6 +88,7 @@ def page_maker(wanted: Wanted) -> Callable[[Event], str]:
             raise Declined(NOTHING.get(kinds[0], "There is nothing to print yet."))
         title = shown_text(wanted.title) if wanted.title else title_of(file, event.source.turn)
         board = board_of(event, kept_clock(file), kept_secret(file)) if wanted.is_board else None
-        return rendered(parts, title, number, board)
+        look = look_of(file)
+        return rendered(parts, title, number, board, replace(look, is_dark=True) if wanted.is_dark else look)
 
     return make

@@ -16,13 +16,16 @@ from companions.clock import Clock
 from companions.codes import Secret
 from companions.drawn import shut_now
 from companions.event import Event
+from companions.look import Look
 from companions.notes import Note, Notes
-from companions.sheets.board import layout_of
+from companions.sheets.board import in_columns, layout_of
+from companions.sheets.colours import DARK, LIGHT, PRINTED, variables
 from companions.sheets.parts import (
     SLIP_LETTERS,
     Part,
     Reach,
     SlipsFor,
+    is_close,
     letters_of_slip,
     part_of,
     reach_of,
@@ -67,6 +70,8 @@ def templates() -> Environment:
     )
     environment.globals["letters_of_slip"] = letters_of_slip
     environment.globals["layout_of"] = layout_of
+    environment.globals["in_columns"] = in_columns
+    environment.globals["is_close"] = is_close
     return environment
 
 
@@ -193,17 +198,34 @@ def for_board(part: Part) -> Part:
     return replace(part, standings=seen)
 
 
-def rendered(parts: list[Part], title: str, number: int, board: Optional[Board] = None) -> str:
+def colours_of(look: Look, is_board: bool) -> dict[str, str]:
+    """On a board those of the day and of the night, or those that FILE.look chooses."""
+    if not is_board:
+        return {"colours": variables(PRINTED, look.accent)}
+    if look.is_dark is not None:
+        five, scheme = (DARK, "dark") if look.is_dark else (LIGHT, "light")
+        return {"colours": variables(five, look.accent), "colours_in_the_dark": "", "scheme": scheme}
+    by_night = variables(DARK, look.accent)
+    return {"colours": variables(LIGHT, look.accent), "colours_in_the_dark": by_night, "scheme": "light dark"}
+
+
+def rendered(
+    parts: list[Part], title: str, number: int, board: Optional[Board] = None, look: Look = Look()
+) -> str:
     template = templates().get_template("page.html")
     parts = list(map(for_board, parts)) if board else parts
+    now = time.time()
     text: str = template.render(
         title=title,
+        look=look,
+        made_at=time.strftime("%Y-%m-%d %H:%M", time.localtime(now)),
+        **colours_of(look, board is not None),
         round=number,
         parts=parts,
         board=board,
         policy=policy() if board else "",
         script=Markup(script()) if board else "",
-        now=time.time(),
+        now=now,
         seconds=SECONDS_TO_RELOAD,
         slip_letters=SLIP_LETTERS,
     )
@@ -217,5 +239,6 @@ def page_of(
     kinds: Iterable[str],
     board: Optional[Board] = None,
     slips: SlipsFor = SlipsFor(),
+    look: Look = Look(),
 ) -> str:
-    return rendered(parts_for(event, number, kinds, slips), title, number, board)
+    return rendered(parts_for(event, number, kinds, slips), title, number, board, look)

@@ -26,6 +26,8 @@ SLIPS_A_SHEET = 5
 SLIP_LETTERS, SLIP_ROOM, SLIP_LINES = 11.5, 66, 2
 # the same beside a code, which takes a part of the slip
 ROOM_BESIDE_A_CODE = 46
+# so many rows fit a page of paper, and so many if they stand close
+LOOSE_ROWS, CLOSE_ROWS = 28, 45
 
 
 @dataclass(frozen=True)
@@ -152,6 +154,12 @@ class Part:
     reach: Optional[Reach] = None
     # the number of the player who is the last one to go on to the playoff, or 0
     last_in: int = 0
+
+
+def is_close(part: Part) -> bool:
+    """Whether the rows of a list stand close to each other, so that it fits one page of paper."""
+    rows = max(map(len, (part.tables, part.names, part.standings, part.ranking)))
+    return LOOSE_ROWS < rows <= CLOSE_ROWS
 
 
 def records_before(event: Event, number: int) -> dict[int, Record]:
