@@ -8,6 +8,8 @@ import re
 from dataclasses import dataclass
 from typing import Iterable, Optional, Sequence
 
+from companions.languages import DEFAULT, Say, say_in
+
 KIND = "event_reporter draw 2"
 # what stands in a text for a number that was not drawn, for throwers who are not named, and for no mistake
 NONE = "-"
@@ -99,9 +101,10 @@ class Rule:
     @property
     def throw(self) -> str:
         """What has to be done in the room."""
-        if self.is_papers:
-            return "Two or more write four digits each, hidden, and turn the papers over together."
-        return f"Throw {self.text.split()[1]}, all at once, where everybody sees. Whoever doubts adds a die."
+        return self.throw_in(say_in(DEFAULT))
+
+    def throw_in(self, say: Say) -> str:
+        return say("throw_papers") if self.is_papers else say("throw_dice", dice=self.text.split()[1])
 
     def fault_of(self, number: str) -> str:
         """Why a number is none by this rule; or nothing."""

@@ -9,10 +9,10 @@ from typing import Optional
 from companions.draw import NONE, DrawText, Rule, shown_digits
 from companions.draws import Draws
 from companions.event import Event, shown_player
+from companions.languages import Say
 from companions.lists import Player, players_of
+from companions.names import begun
 from companions.program import Declined
-
-CHOSEN = "Key chosen by the scorekeeper"
 
 
 @dataclass(frozen=True)
@@ -65,25 +65,27 @@ def shut_now(event: Event) -> Optional[Shut]:
     return Shut(number, drawing, lists.mark, lists.data, len(named), tuple(out), tuple(new), shown)
 
 
-def drawn_line(event: Event, number: int) -> str:
-    """A line beneath a heading of the round: how its key came about."""
-    if not event.file or not number:
-        return ""
-    text = text_of_round(event, number)
+def drawn_shown(text: Optional[DrawText], say: Say) -> str:
+    """How a round was drawn, in a line."""
     if not text:
-        return CHOSEN
-    instead = "" if text.instead == NONE else f", in place of {text.instead}"
-    times = f", lists shut {text.drawing} times" if text.drawing > 1 else ""
-    key = f"Number {text.number}" if text.is_drawn else CHOSEN
-    return f"{key}{instead}{times}, text {shown_digits(text.sum)}"
+        return say("key_chosen")
+    found = ["by_number" if text.is_drawn else "key_chosen"]
+    found += ["instead_of"] * (text.instead != NONE) + ["drawn_times"] * (text.drawing > 1) + ["text_digits"]
+    words = {"number": text.number, "numbers": text.instead, "count": text.drawing}
+    return ", ".join(say(key, **words, digits=shown_digits(text.sum)) for key in found)
 
 
-def lines_below(text: DrawText, event: Event) -> tuple[str, ...]:
+def drawn_line(event: Event, number: int, say: Say) -> str:
+    """A line beneath a heading of the round: how its key came about."""
+    return drawn_shown(text_of_round(event, number), say) if event.file and number else ""
+
+
+def lines_below(text: DrawText, event: Event, say: Say) -> tuple[str, ...]:
     """What stands besides of a round that was drawn."""
-    found = [f"Lists shut {text.drawing} times"] if text.drawing > 1 else []
+    found = [begun(say("drawn_times", count=text.drawing))] if text.drawing > 1 else []
     if text.instead != NONE:
-        found.append(f"In place of {text.instead}")
+        found.append(begun(say("instead_of", numbers=text.instead)))
     if text.by != NONE:
         players = [event.players[int(it)] for it in text.by.split(" ") if int(it) in event.players]
-        found.append(f"Thrown by {', '.join(map(shown_player, players))}")
+        found.append(say("thrown_by", names=", ".join(map(shown_player, players))))
     return tuple(found)

@@ -7,6 +7,7 @@ import re
 from dataclasses import dataclass, field, replace
 from typing import Callable, Dict, Optional
 
+from companions.languages import DEFAULT, LANGUAGES
 from companions.title import shown_text
 
 ACCENT = "#d9a400"
@@ -38,6 +39,7 @@ class Look:
     accent: str = ACCENT
     logo: str = ""
     is_dark: Optional[bool] = None
+    language: str = DEFAULT
     faults: tuple[str, ...] = field(default=(), compare=False)
 
 
@@ -92,6 +94,12 @@ def with_dark(look: Look, value: str, _folder: str) -> Look:
     return replace(look, is_dark=TRUTHS[value.lower()])
 
 
+def with_language(look: Look, value: str, _folder: str) -> Look:
+    if value.lower() not in LANGUAGES:
+        raise BadLook(f"There is no language {value}. There are {', '.join(LANGUAGES)}.")
+    return replace(look, language=value.lower())
+
+
 def with_logo(look: Look, value: str, folder: str) -> Look:
     """A picture beside the event, and from nowhere else."""
     if os.path.basename(value) != value:
@@ -114,4 +122,5 @@ KEYS: Dict[str, Callable[[Look, str, str], Look]] = {
     "accent": with_accent,
     "logo": with_logo,
     "dark": with_dark,
+    "language": with_language,
 }

@@ -1,6 +1,7 @@
 """The bracket as it is drawn, beside the stages of the plain reading."""
 import pytest
 from companions.event import Event
+from companions.languages import say_in
 from companions.sheets.bracket import Tree, lines_for
 from from_model import FromModel
 from scripts.clients.random_evenings import ENDED, IN_PLAYOFF, evening
@@ -8,7 +9,7 @@ from scripts.models.plain_page import bracket_due
 
 
 def drawn(event):
-    return Tree(Event(FromModel(event))).drawn()
+    return Tree(Event(FromModel(event)), say_in("en")).drawn()
 
 
 @pytest.mark.parametrize("cut", [2, 4, 8])

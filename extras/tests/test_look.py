@@ -28,8 +28,8 @@ def test_without_a_file_all_is_as_ever(file):
 def test_lines_as_toml_has_them_and_as_people_write_them(file, tmp_path):
     (tmp_path / "owls.png").write_bytes(PNG)
     logo = f"data:image/png;base64,{base64.b64encode(PNG).decode()}"
-    due = Look("Modern, Owls # 1", "#b33a00", logo, True)
-    toml = '# ours\nsubtitle = "Modern, Owls # 1"\naccent = "#b33a00" # red\n\nlogo = "owls.png"\ndark = true\n'
+    due = Look("Modern, Owls # 1", "#b33a00", logo, True, "de")
+    toml = '# ours\nsubtitle = "Modern, Owls # 1"\naccent = "#b33a00" # red\n\nlogo = "owls.png"\ndark = true\nlanguage = "de"\n'
     assert written(file, toml) == due and look_of(file).faults == ()
     plain = "\ufeffSubtitle=Modern, Owls \r\naccent = #B30 # red\r\n dark = No\r\n"
     assert written(file, plain) == Look("Modern, Owls", "#bb3300", "", False) and look_of(file).faults == ()
@@ -37,9 +37,10 @@ def test_lines_as_toml_has_them_and_as_people_write_them(file, tmp_path):
 
 @pytest.mark.parametrize("line, fault", [
     ("subtitle", 'line 2: It is no line, as: subtitle = "Owls Game Shop"'),
-    ("colour = red", "line 2: There is no colour. There are subtitle, accent, logo, dark"),
+    ("colour = red", "line 2: There is no colour. There are subtitle, accent, logo, dark, language."),
     ("accent = red", 'line 2: It is no colour, as: accent = "#b33a00"'),
     ('accent = "#12345"', "It is no colour"),
+    ("language = fr", "line 2: There is no language fr. There are en, de."),
     ("dark = maybe", "line 2: It is neither true nor false, as: dark = true"),
     ("logo = none.png", "There is no none.png beside the event that can be read."),
     ("logo = ../owls.png", "Name a file that lies beside the event"),

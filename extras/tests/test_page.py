@@ -11,6 +11,7 @@ pytest.importorskip("jinja2")
 from companions.clock import Clock
 from companions.codes import Secret, shown_code
 from companions.event import Event
+from companions.languages import say_in
 from companions.look import Look
 from companions.sheets.colours import DARK, LIGHT, PRINTED
 from companions.sheets.page import Board, Foot, Playing, board_of, page_of, parts_of_board, playing_in
@@ -25,6 +26,9 @@ from from_model import FromModel
 from scripts.clients.random_evenings import COMPLETE, ENDED, ENROLLING, OPEN, STARTED, evening
 from scripts.models.plain_event import Event as Played
 from scripts.models.plain_page import Page
+
+
+ENGLISH = say_in("en")
 
 
 def board(event, clock=None):
@@ -57,6 +61,29 @@ def test_the_board_has_one_script_and_a_policy_that_names_it(dice):
     assert said.attributes["content"].startswith("default-src 'none'; ")
     sheets = Page(page_of(Event(FromModel(event)), "Friday", 1, ("tables", "names"))).root
     assert sheets.of("script") == [] and [it for it in sheets.of("meta") if "http-equiv" in it.attributes] == []
+
+
+def test_sheets_and_board_are_in_the_language_of_the_room(dice):
+    event = evening(dice, 24, OPEN, 3, 8)
+    read, look = Event(FromModel(event)), Look(language="de")
+    number, german = len(event.stored), say_in("de")
+    kinds = ("tables", "names", "slips", "standings", "seats")
+    root = Page(page_of(read, "Freitag", number, kinds, look=look)).root
+    assert root.of("html")[0].attributes["lang"] == "de" and root.of("title")[0].text() == f"Freitag, Runde {number}"
+    what = [it.text() for it in root.of("span", "what")]
+    assert what[:2] == [f"Runde {number}, nach Tischen", f"Runde {number}, nach Namen"]
+    assert {"Tisch", "Gegner", "Platz", "S-N-U", "Nr"} <= {it.text() for it in root.of("th")}
+    assert {it.text() for it in root.of("span", "signature")} <= {"Unterschrift"}
+    words = {it.text().split()[0] for it in root.of("span", "round")}
+    assert words <= {"Runde"} and all(it.text().startswith("gedruckt ") for it in root.of("span", "made"))
+    board = page_of(read, "Freitag", number, parts_of_board(read), board_of(read, None, None, german), look=look)
+    root = Page(board).root
+    assert root.one("p", "playing").startswith(("Fertige Tische: ", "Alle Ergebnisse sind da."))
+    assert "Paarungen nach Nachnamen" in [it.text() for it in root.of("p", "label")]
+    ended = Event(FromModel(evening(dice, 24, ENDED, 3, 8)))
+    root = Page(page_of(ended, "Freitag", 3, ("bracket", "final", "champion"), look=look)).root
+    assert [it.text() for it in root.of("text", "stage")] == ["Viertelfinale", "Halbfinale", "Finale", "Sieger"]
+    assert root.one("p", "how").startswith("gewann das Finale ")
 
 
 def test_the_look_of_an_event(dice):
@@ -94,7 +121,7 @@ def test_a_board_stays_on_the_names_while_nobody_has_finished(dice):
         if score:
             event.report(1, 3, score, True)
         read = Event(FromModel(event))
-        text = page_of(read, "Friday", 1, parts_of_board(read), board_of(read, None, None))
+        text = page_of(read, "Friday", 1, parts_of_board(read), board_of(read, None, None, ENGLISH))
         (body,) = Page(text).root.of("body")
         assert ("data-nobody-finished" in body.attributes) == is_said
 
@@ -132,13 +159,13 @@ def test_the_board_says_how_many_tables_have_finished(dice):
         due = Playing(len(tables) - len(still), still) if newest else None
         assert playing_in(Event(FromModel(event))) == due
     many = tuple(range(1, 32))
-    texts = [Playing(*it).shown for it in ((0, (1, 2, 3)), (1, (2,)), (8, (2, 4, 5, 6, 9)), (3, ()), (9, many))]
+    texts = [Playing(*it).shown(ENGLISH) for it in ((0, (1, 2, 3)), (1, (2,)), (8, (2, 4, 5, 6, 9)), (3, ()), (9, many))]
     assert texts == [
-        "0 of 3 tables have finished. Still playing: 1-3",
-        "1 of 2 tables has finished. Still playing: 2",
-        "8 of 13 tables have finished. Still playing: 2, 4-6, 9",
+        "Tables finished: 0 of 3. Still playing: 1-3",
+        "Tables finished: 1 of 2. Still playing: 2",
+        "Tables finished: 8 of 13. Still playing: 2, 4-6, 9",
         "All scores are in.",
-        "9 of 40 tables have finished.",
+        "Tables finished: 9 of 40.",
     ]
 
 
@@ -147,9 +174,9 @@ def test_the_foot_of_a_board(dice):
     event.pair(1, bytes(32))
     event.report(1, 3, (2, 0, 0), True)
     read, secret = Event(FromModel(event)), Secret("http://192.168.1.10:8080", bytes(32))
-    text = page_of(read, "Friday", 1, parts_of_board(read), board_of(read, None, secret))
+    text = page_of(read, "Friday", 1, parts_of_board(read), board_of(read, None, secret, ENGLISH))
     root = Page(text).root
-    assert root.one("p", "playing") == "1 of 4 tables has finished. Still playing: 1, 2, 4"
+    assert root.one("p", "playing") == "Tables finished: 1 of 4. Still playing: 1, 2, 4"
     assert root.one("p", "address") == "Your table and your score on your phone: 192.168.1.10:8080"
     (bar,) = root.of("svg", "bar")
     assert [it.attributes["width"] for it in bar.of("rect")] == ["4", "1"]

@@ -15,6 +15,7 @@ pytest.importorskip("jinja2")
 from companions.clock import Clock, keep_clock
 from companions.codes import Secret, shown_code
 from companions.event import Event
+from companions.languages import LANGUAGES
 from companions.phones import site as module
 from companions.phones.asked import hosts_of
 from companions.phones.at_table import drops_in
@@ -23,7 +24,6 @@ from companions.phones.desk_page import Desk
 from companions.phones.pages import style
 from companions.phones.score_queue import Answer, NotNow
 from companions.phones.site import Site, outcome_of
-from companions.phones.texts import ENGLISH, GERMAN
 from companions.notes import Notes
 from companions.plan import Plan
 from companions.reports import OTHER, STORED, WRONG, Reports, judge_call
@@ -58,6 +58,9 @@ class Told:
         if answer is NotNow:
             raise NotNow
         return answer
+
+
+ENGLISH, GERMAN = LANGUAGES["en"], LANGUAGES["de"]
 
 
 class Room:
@@ -275,6 +278,17 @@ def test_each_phone_is_answered_in_its_language(room):
         assert room.ask("GET", "/standings", HTTP_ACCEPT_LANGUAGE=language).text.count(table["rank"]) == 1
 
 
+def test_the_language_of_the_room_is_that_of_the_board_and_of_other_phones(room):
+    with open(f"{room.file}.look", "w") as look:
+        look.write("language = de\n")
+    room.cache.keep(*room.cache.read_all(Event(FromModel(room.event), room.file)))
+    for language, due in (("fr", "de"), ("", "de"), ("en", "en")):
+        page = check_page(room.ask("GET", "/", HTTP_ACCEPT_LANGUAGE=language))
+        assert page.root.of("html")[0].attributes["lang"] == due
+    board = room.ask("GET", "/board", HTTP_ACCEPT_LANGUAGE="en").page()
+    assert board.root.one("p", "playing").startswith("Fertige Tische: 0 von 4.")
+
+
 def test_the_clock_stands_on_each_page(room):
     assert room.ask("GET", "/").page().root.of("span", "clock") == []
     keep_clock(room.file, Clock(0, 50))
@@ -381,7 +395,7 @@ def test_three_screens(room):
     page = check_page(room.ask("GET", target))
     assert ENGLISH["is_in"] in page.root.text() and [node.text() for node in page.root.of("dd")] == ["2", "1"]
     # the board has it too, before the event is read again
-    assert "1 of 4 tables has finished" in room.ask("GET", "/board").page().root.one("p", "playing")
+    assert "Tables finished: 1 of 4." in room.ask("GET", "/board").page().root.one("p", "playing")
 
 
 def test_a_different_score_is_told_and_shown(room):

@@ -9,7 +9,7 @@ import subprocess
 
 import pytest
 
-from scripts.clients.random_evenings import COMPLETE, ENDED, HOSTILE, OPEN, STARTED, evening, laid
+from scripts.clients.random_evenings import COMPLETE, ENDED, HOSTILE, IN_PLAYOFF, OPEN, STARTED, evening, laid
 from scripts.clients.sheets import BROWSERS
 from scripts.clients.waiting import PATIENCE
 from scripts.models.plain_page import bracket_due, final_due, name_rows, parts_due, standings_due, table_rows
@@ -181,7 +181,7 @@ const lettersOf = node => {
   return parseFloat(getComputedStyle(node).fontSize) * (drawing ? drawing.getScreenCTM().a : 1);
 };
 const texts = () => {
-  const walker = document.createTreeWalker(document.body, NodeFilter.SHOW_TEXT, it => (it.textContent.trim() && seen(it.parentNode) ? 1 : 2));
+  const walker = document.createTreeWalker(document.body, NodeFilter.SHOW_TEXT, it => (it.textContent.trim() && seen(it.parentNode) && !it.parentNode.closest(".slip .event") ? 1 : 2));
   const found = [];
   while (walker.nextNode()) {
     const range = document.createRange();
@@ -289,6 +289,26 @@ def test_screen(sheets, program, room, dice, browser, players, way, cut, screen)
         assert layout["looks"] < (1.01 if players <= 37 else 2.01 if players <= 64 else 10.01), f"{part}, in few looks"
 
 
+@pytest.mark.needs("the board on a screen", command=BROWSERS)
+@pytest.mark.parametrize("way", [OPEN, IN_PLAYOFF, ENDED])
+def test_screen_in_german(sheets, program, room, dice, browser, way):
+    """Its words are longer: they have room too, with a subtitle, phones, notes and a dark board."""
+    event = evening(dice, 37, way, 3, 8)
+    file = laid(program.path, f"{room}/e.event", event, "E")
+    first = event.stored[-1][0]
+    for ending, text in (
+        (".look", "language = de\nsubtitle = Modern, im Spieleladen zur Eule\ndark = true\n"),
+        (".clock", "until 1764362700 of 50\n"),
+        (".phones", f"at http://192.168.1.10:8080\nkey {'0' * 64}\nboth no\n"),
+        (".notes", f"round {len(event.stored)} table 1 players {first[0]} {first[1]} +5 min\n"),
+    ):
+        with open(f"{file}{ending}", "w", encoding="utf-8") as it:
+            it.write(text)
+    _, text, _ = sheets.printed(file, "--board", "--title", "Das große Freitagsturnier")
+    for part, layout in list(laid_out(browser, room, text).items())[1:]:
+        check_layout(part, layout, (1920, 1080))
+
+
 # ---- the clock, and the parts in turn
 
 # a clock that the test sets, in place of the machine's
@@ -382,14 +402,19 @@ def test_the_script_runs_under_the_policy_of_the_page(sheets, program, room, dic
 
 
 @pytest.mark.needs("the board on a screen", command=BROWSERS)
-def test_slips(sheets, program, room, dice, browser):
-    """Slips are of one height, whatever the names are, and no name takes more than two lines."""
+@pytest.mark.parametrize("language", ["en", "de"])
+def test_slips(sheets, program, room, dice, browser, language):
+    """Slips are of one height, whatever the names are, no name takes more than two lines, and nothing lies over anything."""
     event = evening(dice, 46, STARTED, 3, 0)
     event.names[: len(HOSTILE)] = HOSTILE
     event.pair(1, bytes(32))
     file = laid(program.path, f"{room}/slips.event", event, "E")
+    with open(f"{file}.look", "w") as it:
+        it.write(f"language = {language}\n")
+    with open(f"{file}.phones", "w") as it:
+        it.write(f"at http://192.168.1.10:8080\nkey {'0' * 64}\nboth no\n")
     _, text, _ = sheets.printed(file, "--parts", "slips", "--title", "W" * 60)
     found = laid_out(browser, room, text.replace('class="sheets"', 'class="sheets" style="width:186mm;max-width:none;padding:0"'))["all"]
     assert (len(found["slips"]), len(set(found["slips"]))) == (23, 1), "slips, of one height"
     assert [it for it in found["slip_names"] if it[1] > 2] == [], "slips, names in two lines at most"
-    assert found["inside"] == [], "slips, nothing is cut off"
+    assert (found["inside"], found["over"]) == ([], []), "slips, nothing is cut off"

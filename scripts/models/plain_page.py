@@ -312,8 +312,7 @@ def foot_due(event):
     number, tables = len(event.stored), [(place, score) for place, (_, second, score) in enumerate(event.stored[-1], 1) if second]
     still = [place for place, score in tables if not score]
     done = len(tables) - len(still)
-    have = "has" if done == 1 else "have"
-    playing = f"{done} of {len(tables)} table{'s' * (len(tables) != 1)} {have} finished. Still playing: {spans(still)}" if still else "All scores are in."
+    playing = f"Tables finished: {done} of {len(tables)}. Still playing: {spans(still)}" if still else "All scores are in."
     last = f"Next: the playoff of the first {event.cut}" if event.cut else "This is the last round."
     playing = playing if len(still) <= 30 else playing[: playing.index(" Still")]
     return [playing, f"Next: round {number + 1} of {event.rounds}" if number < event.rounds else last]

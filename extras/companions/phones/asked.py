@@ -9,9 +9,9 @@ from dataclasses import dataclass
 from functools import lru_cache
 from typing import Any, Callable, Dict, Iterable, Optional
 
+from companions.languages import DEFAULT, language_for, plain_in, quality_of
 from companions.phones.limits import origin_of
-from companions.phones.pages import REASONS, Reply, plain_in, rendered
-from companions.phones.texts import language_for, quality_of
+from companions.phones.pages import REASONS, Reply, rendered
 from companions.score import Score
 
 MOST_BODY = 2048
@@ -97,7 +97,7 @@ class Pages:
         self.hosts, self.at = hosts, at
 
     def __call__(self, environ: Environ, start_response: Callable[..., object]) -> Iterable[bytes]:
-        language = language_for(environ.get("HTTP_ACCEPT_LANGUAGE", ""))
+        language = language_for(environ.get("HTTP_ACCEPT_LANGUAGE", ""), self.room_language)
         try:
             self.admit(environ, language)
             reply = self.reply(self.taken_apart(environ, language))
@@ -119,6 +119,11 @@ class Pages:
         # the server would copy a body for each connection, but not what it reads as a file
         as_file: Optional[Callable[[io.BytesIO], Iterable[bytes]]] = environ.get("wsgi.file_wrapper")
         return as_file(io.BytesIO(body)) if as_file and reply.gzipped else [body]
+
+    @property
+    def room_language(self) -> str:
+        """For phones of other languages."""
+        return DEFAULT
 
     def admit(self, environ: Environ, language: str) -> None:
         """What is asked too often is settled before anything is looked at."""

@@ -10,6 +10,7 @@ from typing import Optional, Tuple
 from companions.clock import Clock, kept_clock
 from companions.event import Event
 from companions.lists import Match, Matches, Player, Players, Rounds, Standing, matches_by_player
+from companions.look import Look, look_of
 from companions.notes import Note, Notes
 from companions.phones.kept_codes import KeptCodes
 from companions.phones.running import Running
@@ -71,6 +72,8 @@ class Snapshot:
     notes: tuple[Note, ...] = ()
     # of the file that was read: after `back` there is another one
     inode: Optional[int] = None
+    # how the board looks, and in which language the room is
+    look: Look = Look()
 
     @property
     def number(self) -> int:
@@ -179,7 +182,8 @@ class EventCache:
         read = ReadEvent(event, {})
         matches = read.newest()
         notes = tuple(Notes(self.file).of_round(len(read.rounds), matches))
-        self.base = Snapshot(read, title, 0, read.by_name, matches_by_player(matches), notes, inode)
+        look = look_of(self.file)
+        self.base = Snapshot(read, title, 0, read.by_name, matches_by_player(matches), notes, inode, look)
         self.show()
 
     def stamp_now(self) -> tuple[Optional[Stamp], tuple[float, ...]]:

@@ -8,11 +8,12 @@ from typing import Optional
 
 from companions.codes import FIRST_SEAT
 from companions.lists import Match, Player
+from companions.languages import DEFAULT
+from companions.languages.marked import named
 from companions.phones.asked import Asked, Pages
 from companions.phones.cache import EventCache
-from companions.phones.pages import Reply, named, rendered, style_reply
+from companions.phones.pages import Reply, rendered, style_reply
 from companions.phones.site import Site, clock_shown
-from companions.phones.texts import DEFAULT
 from companions.reports import (
     CALLS,
     CALLS_OFF,

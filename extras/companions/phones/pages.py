@@ -8,9 +8,9 @@ from functools import lru_cache, partial
 from typing import Any, Callable
 
 from jinja2 import Environment, FileSystemLoader, StrictUndefined
-from markupsafe import Markup, escape
 
-from companions.phones.texts import LANGUAGES
+from companions.languages import plain_in
+from companions.languages.marked import named, text_in
 
 FOLDER = os.path.join(os.path.dirname(os.path.abspath(__file__)), "templates")
 POLICY = "default-src 'none'; style-src 'self'; form-action 'self'; frame-ancestors 'none'; base-uri 'none'"
@@ -71,21 +71,6 @@ class Reply:
 def tag_of(body: bytes) -> str:
     """Another one for another page (RFC 9110, section 8.8.3)."""
     return f'"{hashlib.sha256(body).hexdigest()[:20]}"'
-
-
-def named(name: str) -> Markup:
-    """A name as it is, whatever its letters do."""
-    return Markup("<bdi>{}</bdi>").format(name)
-
-
-def text_in(language: str, key: str, **words: object) -> Markup:
-    """A text of a language, in which what is filled in is escaped."""
-    return escape(LANGUAGES[language][key]).format(**words)
-
-
-def plain_in(language: str, key: str, **words: object) -> str:
-    """The same as a plain text, as for an attribute."""
-    return LANGUAGES[language][key].format(**words)
 
 
 @lru_cache(maxsize=None)

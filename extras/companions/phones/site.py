@@ -11,12 +11,12 @@ from typing import Any, Callable, Hashable, Optional
 
 from companions.clock import Clock
 from companions.codes import FIRST_SEAT, SECOND_SEAT, TABLE, Secret
-from companions.draw import NONE, DrawText, shown_digits
-from companions.drawn import rule_of_event, shut_now, text_of_round
+from companions.drawn import drawn_shown, rule_of_event, shut_now, text_of_round
 from companions.draws import Draws
 from companions.entries import Entries, NotEntered
+from companions.languages import plain_in, say_in
+from companions.languages.marked import named, text_in
 from companions.lists import Match, Player
-from companions.look import look_of
 from companions.names import found_by
 from companions.phones.asked import Asked, Environ, Pages, Settled, score_in, score_of
 from companions.phones.at_table import AtTable, Link, Typed, drops_in, link_in, said_in, typed_in
@@ -26,15 +26,11 @@ from companions.phones.limits import Crowded, DelayQueues, OriginBuckets, TokenB
 from companions.phones.me import me_of
 from companions.phones.pages import (
     Reply,
-    named,
-    plain_in,
     rendered,
     style_reply,
     tag_of,
-    text_in,
 )
 from companions.phones.score_queue import Answer, NotNow, ScoreQueue
-from companions.phones.texts import DEFAULT
 from companions.program import Refusal
 from companions.records import records_now
 from companions.reports import (
@@ -145,6 +141,10 @@ class Site(Pages):
             "/board": self.board,
         }
 
+    @property
+    def room_language(self) -> str:
+        return self.cache.now.look.language
+
     def admit(self, environ: Environ, language: str) -> None:
         """With a right code requests are counted by table or player, and all others by address."""
         path = environ.get("PATH_INFO", "")
@@ -243,7 +243,7 @@ class Site(Pages):
             clock = self.cache.clock if is_board else self.clock(language)
             return Shown(snapshot.pairing, (snapshot.version, clock))
 
-        name = (path, DEFAULT if is_board else language)
+        name = (path, self.room_language if is_board else language)
         kept = self.kept.page(name, shown, lambda: self.lists[path](self.cache.now, language))
         reply = Reply(200, kept.body, gzipped=kept.gzipped)
         return self.as_board(reply) if is_board else reply
@@ -263,11 +263,9 @@ class Site(Pages):
         rows = [row_of(snapshot, player) for player in snapshot.by_name if player.number in snapshot.matches]
         text = text_of_round(snapshot.event, snapshot.number)
         has_draw = rule_of_event(self.cache.file) is not None
-        drawn = drawn_shown(text, language) if rows else ""
+        drawn = drawn_shown(text, say_in(language)) if rows else ""
         records = records_before(snapshot.event, snapshot.number)
-        return self.page(
-            "pairings.html", language, rows=rows, drawn=drawn, has_draw=has_draw, records=records
-        ).body
+        return self.page("pairings.html", language, rows=rows, drawn=drawn, has_draw=has_draw, records=records).body
 
     def who(self, asked: Asked, number: int) -> Reply:
         """A player's own page: how the tiebreakers come about."""
@@ -288,7 +286,7 @@ class Site(Pages):
     def draw(self, snapshot: Snapshot, language: str) -> bytes:
         """The rule, what the next round waits for, and the text of each round that was drawn."""
         rule, texts = rule_of_event(self.cache.file), Draws(self.cache.file).texts()
-        rows = [DrawRow(text.round, text.drawing, drawn_shown(text, language)) for text in texts]
+        rows = [DrawRow(text.round, text.drawing, drawn_shown(text, say_in(language))) for text in texts]
         shown = "" if not rule or rule.is_off else rule.text
         # who is whom is to be seen before the first throw
         players = [] if snapshot.number or not shown else snapshot.by_name
@@ -320,8 +318,9 @@ class Site(Pages):
         from companions.sheets.page import board_of, page_of, parts_of_board
 
         event = snapshot.event
-        board = board_of(event, self.cache.clock, self.secret, is_sent=True)
-        kinds, look = parts_of_board(event), look_of(self.cache.file)
+        say = say_in(snapshot.look.language)
+        board = board_of(event, self.cache.clock, self.secret, say, is_sent=True)
+        kinds, look = parts_of_board(event), snapshot.look
         return page_of(event, snapshot.title, snapshot.number, kinds, board, look=look).encode("utf-8")
 
     # ---- codes
@@ -636,16 +635,6 @@ def outcome_of(answer: Answer, stored: Optional[Score], said: Score) -> str:
     if answer.refused == Refusal.ALREADY_REPORTED:
         return SAME if stored == said else OTHER
     return f"refused {answer.refused}"
-
-
-def drawn_shown(text: Optional[DrawText], language: str) -> str:
-    """How a round was drawn, in a line."""
-    if not text:
-        return plain_in(language, "key_chosen")
-    found = ["by_number" if text.is_drawn else "key_chosen"]
-    found += ["instead_of"] * (text.instead != NONE) + ["drawn_times"] * (text.drawing > 1) + ["text_digits"]
-    words = {"number": text.number, "numbers": text.instead, "count": text.drawing}
-    return ", ".join(plain_in(language, key, **words, digits=shown_digits(text.sum)) for key in found)
 
 
 def row_of(snapshot: Snapshot, player: Player) -> Row:

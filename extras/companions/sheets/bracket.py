@@ -5,6 +5,7 @@ from dataclasses import dataclass, field
 from typing import Optional
 
 from companions.event import Event
+from companions.languages import Say
 from companions.lists import Match, Matches, Player
 from companions.sheets.widths import width_of
 
@@ -14,7 +15,7 @@ NAME_ROOM, LETTER, SMALL_LETTER, SMALL_LINE = 140, 16, 11, 14
 FINAL, CHAMPION = 1.25, 1.5
 # which seeds meet in the slots of the first stage, by how many slots there are
 SEEDS = {1: ((1, 2),), 2: ((1, 4), (2, 3)), 4: ((1, 8), (4, 5), (2, 7), (3, 6))}
-STAGE_NAMES = {1: "Final", 2: "Semifinals", 4: "Quarterfinals"}
+STAGE_NAMES = {1: "final", 2: "semifinals", 4: "quarterfinals"}
 
 
 def lines_for(name: str, letter: int = LETTER) -> int:
@@ -86,8 +87,8 @@ def seeds_of(matches: Matches) -> dict[int, int]:
 
 
 class Tree:
-    def __init__(self, event: Event):
-        self.event = event
+    def __init__(self, event: Event, say: Say):
+        self.event, self.say = event, say
         names = [
             event.players[number].name for match in event.stages[0] for number in (match.first, match.second)
         ]
@@ -167,7 +168,7 @@ class Tree:
         if drawn:
             lower = boxes[1]
             at = lower.x + lower.width - 4, lower.y + lower.height + 15
-            self.drawing.drawn_games.append(Text(f"{drawn} drawn", *at))
+            self.drawing.drawn_games.append(Text(self.say("games_drawn_count", count=drawn), *at))
 
     def add_lines(self, stage: int, slot: int) -> None:
         """From the two matches before to this one."""
@@ -178,7 +179,7 @@ class Tree:
     def add_champion(self, number: int) -> None:
         """A box beneath the final."""
         stage, y = self.columns - 1, self.champions_top()
-        self.add_heading(stage, "Champion", y)
+        self.add_heading(stage, self.say("champion"), y)
         box = Box(self.left(stage), y, CHAMPION * BOX_WIDTH, CHAMPION * self.height)
         self.drawing.boxes.append(box)
         self.add_seat(number, "", "champion", box, CHAMPION)
@@ -186,7 +187,7 @@ class Tree:
     def drawn(self) -> Drawing:
         for stage in range(self.columns):
             slots = self.first >> stage
-            self.add_heading(stage, STAGE_NAMES.get(slots, f"Stage {stage + 1}"))
+            self.add_heading(stage, self.say(STAGE_NAMES.get(slots, "stage_number"), number=stage + 1))
             for slot in range(slots):
                 self.add_match(stage, slot)
         if self.event.bracket.champion is not None:

@@ -7,6 +7,7 @@ from typing import Callable, Optional, Sequence
 from companions.clock import kept_clock
 from companions.codes import kept_secret
 from companions.event import Event
+from companions.languages import say_in
 from companions.look import look_of
 from companions.program import Declined
 from companions.reading import NoRound
@@ -83,12 +84,13 @@ def page_maker(wanted: Wanted) -> Callable[[Event], str]:
         if wanted.is_board and "links" in kinds:
             raise Declined("Links are for their players alone, and not for a screen.")
         slips = SlipsFor(wanted.tables, kept_secret(file), wanted.players)
-        parts = parts_for(event, number, kinds, slips, wanted.by_first)
+        look = look_of(file)
+        say = say_in(look.language)
+        parts = parts_for(event, number, kinds, slips, wanted.by_first, say)
         if not parts and not wanted.may_be_empty:
             raise Declined(NOTHING.get(kinds[0], "There is nothing to print yet."))
         title = shown_text(wanted.title) if wanted.title else title_of(file, event.source.turn)
-        board = board_of(event, kept_clock(file), kept_secret(file)) if wanted.is_board else None
-        look = look_of(file)
+        board = board_of(event, kept_clock(file), kept_secret(file), say) if wanted.is_board else None
         return rendered(parts, title, number, board, replace(look, is_dark=True) if wanted.is_dark else look)
 
     return make

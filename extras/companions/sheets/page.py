@@ -6,7 +6,7 @@ import hashlib
 import os
 import time
 from dataclasses import dataclass, replace
-from functools import lru_cache
+from functools import lru_cache, partial
 from typing import Iterable, Optional
 
 from jinja2 import Environment, FileSystemLoader, StrictUndefined
@@ -16,6 +16,8 @@ from companions.clock import Clock
 from companions.codes import Secret
 from companions.drawn import shut_now
 from companions.event import Event
+from companions.languages import DEFAULT, Say, say_in
+from companions.languages.marked import named, text_in
 from companions.look import Look
 from companions.notes import Note, Notes
 from companions.sheets.board import in_columns, layout_of
@@ -30,7 +32,7 @@ from companions.sheets.parts import (
     part_of,
     reach_of,
 )
-from companions.wording import counted, ranges
+from companions.wording import ranges
 
 FOLDER = os.path.join(os.path.dirname(os.path.abspath(__file__)), "templates")
 # so many tables that still play are named beneath a board
@@ -68,6 +70,7 @@ def templates() -> Environment:
         lstrip_blocks=True,
         keep_trailing_newline=True,
     )
+    environment.globals["named"] = named
     environment.globals["letters_of_slip"] = letters_of_slip
     environment.globals["layout_of"] = layout_of
     environment.globals["in_columns"] = in_columns
@@ -101,16 +104,14 @@ class Playing:
     def tables(self) -> int:
         return self.finished + len(self.still)
 
-    @property
-    def shown(self) -> str:
+    def shown(self, say: Say) -> str:
         if not self.still:
-            return "All scores are in."
-        have = "has" if self.finished == 1 else "have"
-        finished = f"{self.finished} of {counted(self.tables, 'table')} {have} finished."
+            return say("all_scores")
+        finished = say("tables_finished", count=self.finished, tables=self.tables)
         # more than a look has room for is of no use yet
         if len(self.still) > MOST_STILL:
             return finished
-        return f"{finished} Still playing: {ranges([*self.still])}"
+        return f"{finished} {say('still_playing', tables=ranges([*self.still]))}"
 
 
 @dataclass(frozen=True)
@@ -143,9 +144,9 @@ class Board:
         return playing is not None and playing.finished == 0 and bool(playing.still)
 
 
-def foot_of(event: Event, secret: Optional[Secret]) -> Foot:
+def foot_of(event: Event, secret: Optional[Secret], say: Say) -> Foot:
     # in the playoff nobody looks for a table on a phone
-    return Foot() if event.stages else Foot(reach_of(secret), playing_in(event), next_of(event))
+    return Foot() if event.stages else Foot(reach_of(secret), playing_in(event), next_of(event, say))
 
 
 def playing_in(event: Event) -> Optional[Playing]:
@@ -157,14 +158,14 @@ def playing_in(event: Event) -> Optional[Playing]:
     return Playing(len(matches) - len(still), still)
 
 
-def next_of(event: Event) -> str:
+def next_of(event: Event, say: Say) -> str:
     """What comes after the round, as far as it is known."""
     plan, number = event.plan, len(event.rounds)
     if not plan or not number or event.stages:
         return ""
     if number < plan.rounds:
-        return f"Next: round {number + 1} of {plan.rounds}"
-    return f"Next: the playoff of the first {plan.cut}" if plan.cut else "This is the last round."
+        return say("next_round", number=number + 1, rounds=plan.rounds)
+    return say("next_playoff", count=plan.cut) if plan.cut else say("last_round")
 
 
 def notes_of(event: Event) -> tuple[Note, ...]:
@@ -174,22 +175,29 @@ def notes_of(event: Event) -> tuple[Note, ...]:
     return tuple(Notes(event.file).of_round(len(event.rounds), event.newest()))
 
 
-def board_of(event: Event, clock: Optional[Clock], secret: Optional[Secret], is_sent: bool = False) -> Board:
-    return Board(clock, where_in(event), foot_of(event, secret), notes_of(event), is_sent)
+def board_of(
+    event: Event, clock: Optional[Clock], secret: Optional[Secret], say: Say, is_sent: bool = False
+) -> Board:
+    return Board(clock, where_in(event, say), foot_of(event, secret, say), notes_of(event), is_sent)
 
 
-def where_in(event: Event) -> str:
+def where_in(event: Event, say: Say) -> str:
     number, plan = len(event.rounds), event.plan
     if event.stages or not number:
-        return "Playoff" if event.stages else ""
-    return f"Round {number} of {plan.rounds}" if plan else f"Round {number}"
+        return say("playoff") if event.stages else ""
+    return say("round_of", number=number, rounds=plan.rounds) if plan else say("round_number", number=number)
 
 
 def parts_for(
-    event: Event, number: int, kinds: Iterable[str], slips: SlipsFor = SlipsFor(), by_first: bool = False
+    event: Event,
+    number: int,
+    kinds: Iterable[str],
+    slips: SlipsFor = SlipsFor(),
+    by_first: bool = False,
+    say: Say = say_in(DEFAULT),
 ) -> list[Part]:
     """The parts of these kinds that there are."""
-    return [part for part in (part_of(kind, event, number, slips, by_first) for kind in kinds) if part]
+    return [part for part in (part_of(kind, event, number, slips, by_first, say) for kind in kinds) if part]
 
 
 def for_board(part: Part) -> Part:
@@ -218,6 +226,8 @@ def rendered(
     text: str = template.render(
         title=title,
         look=look,
+        t=partial(text_in, look.language),
+        say=say_in(look.language),
         made_at=time.strftime("%Y-%m-%d %H:%M", time.localtime(now)),
         **colours_of(look, board is not None),
         round=number,
@@ -241,4 +251,5 @@ def page_of(
     slips: SlipsFor = SlipsFor(),
     look: Look = Look(),
 ) -> str:
-    return rendered(parts_for(event, number, kinds, slips), title, number, board, look)
+    parts = parts_for(event, number, kinds, slips, say=say_in(look.language))
+    return rendered(parts, title, number, board, look)

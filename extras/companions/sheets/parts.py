@@ -9,14 +9,15 @@ from companions.draw import shown_digits
 from companions.drawn import Shut, drawn_line, lines_below, rule_of_event, shut_now, text_of_round
 from companions.event import Event
 from companions.exports import Ranked, final_ranking
+from companions.languages import DEFAULT, Say, say_in
 from companions.lists import Match, Player, Standing, matches_by_player
-from companions.names import Listed, begun, listed
+from companions.names import Listed, listed
 from companions.records import Record, records_of
 from companions.score import Score
 from companions.sheets.bracket import Drawing, Tree
 from companions.sheets.squares import square_of
 from companions.sheets.widths import size_for
-from companions.stages import slot_shown
+from companions.stages import NAMES, stage_name
 from companions.working import is_complete, seen_by
 
 DEFAULT_PARTS = ("players", "draw", "tables", "names", "slips", "standings", "bracket", "final")
@@ -179,87 +180,97 @@ def name_rows(players: Iterable[Player], by_first: bool) -> list[NameRow]:
     ]
 
 
-def players_part(event: Event, by_first: bool) -> Part:
+def players_part(event: Event, by_first: bool, say: Say) -> Part:
     rule = rule_of_event(event.file) if event.file else None
-    drawn = "" if not rule or rule.is_off else f"Rounds are drawn: {rule.text}"
+    drawn = "" if not rule or rule.is_off else say("rounds_are_drawn", rule=rule.text)
     rows = tuple(name_rows(event.players.values(), by_first))
-    return Part("players", f"Players: {len(rows)}", names=rows, drawn=drawn)
+    return Part("players", say("players_count", count=len(rows)), names=rows, drawn=drawn)
 
 
-def draw_part(event: Event, number: int) -> Optional[Part]:
+def draw_part(event: Event, number: int, say: Say) -> Optional[Part]:
     """The draw of the round that is shown; once the lists of the next one are shut, theirs."""
     rule = rule_of_event(event.file) if event.file else None
     if not rule:
         return None
     shut = shut_now(event) if number == len(event.rounds) else None
     if shut:
-        lines = (rule.throw, "The tables follow from round and number, and from nothing else.")
+        lines = (rule.throw_in(say), say("tables_follow"))
         shown = DrawShown(rule.text, shut.number, lines, shut.mark, square_of(shut.mark), shut)
-        return Part("draw", f"Round {shut.round}, before the throw", draw=shown)
+        return Part("draw", say("before_the_throw", number=shut.round), draw=shown)
     if not number:
-        return None if rule.is_off else Part("draw", "The draw", draw=DrawShown(rule.text, "", (rule.throw,)))
-    text = text_of_round(event, number)
+        shown = DrawShown(rule.text, "", (rule.throw_in(say),))
+        return None if rule.is_off else Part("draw", say("draw"), draw=shown)
+    text, what = text_of_round(event, number), say("round_draw", number=number)
     if not text:
-        return Part("draw", f"Round {number}, the draw", draw=DrawShown(rule.text, ""))
+        return Part("draw", what, draw=DrawShown(rule.text, ""))
     square = square_of(text.data, error="l")
     found = "" if not text.is_drawn else text.number
-    shown = DrawShown(rule.text, found, lines_below(text, event), shown_digits(text.sum), square)
-    return Part("draw", f"Round {number}, the draw", draw=shown)
+    shown = DrawShown(rule.text, found, lines_below(text, event, say), shown_digits(text.sum), square)
+    return Part("draw", what, draw=shown)
 
 
-def table_row(event: Event, match: Match) -> TableRow:
+def table_of(match: Match, say: Say) -> str:
+    return say("bye_at_table") if match.is_bye else str(match.place)
+
+
+def table_row(event: Event, match: Match, say: Say) -> TableRow:
     second = None if match.is_bye else event.players[match.second]
-    return TableRow(
-        "bye" if match.is_bye else str(match.place), event.players[match.first], second, match.score
-    )
+    return TableRow(table_of(match, say), event.players[match.first], second, match.score)
 
 
-def tables_part(event: Event, number: int) -> Part:
-    rows = tuple(table_row(event, match) for match in event.shown_rounds[number - 1])
+def tables_part(event: Event, number: int, say: Say) -> Part:
+    rows = tuple(table_row(event, match, say) for match in event.shown_rounds[number - 1])
     records = records_before(event, number)
-    drawn = drawn_line(event, number)
-    what, label = f"Round {number}, by table", "pairings by table"
+    drawn = drawn_line(event, number, say)
+    what, label = say("by_table", number=number), say("pairings_by_table")
     return Part("tables", what, label, tables=rows, drawn=drawn, records=records)
 
 
-def seated(event: Event, row: NameRow, match: Match) -> NameRow:
+def seated(event: Event, row: NameRow, match: Match, say: Say) -> NameRow:
     opponent = event.players.get(match.opponent_of(row.player.number))
-    return replace(row, table="bye" if match.is_bye else str(match.place), opponent=opponent)
+    return replace(row, table=table_of(match, say), opponent=opponent)
 
 
-def names_part(event: Event, number: int, by_first: bool, reach: Optional[Reach]) -> Part:
+def names_part(event: Event, number: int, by_first: bool, reach: Optional[Reach], say: Say) -> Part:
     matches = matches_by_player(event.rounds[number - 1])
     who_sits = (player for player in event.players.values() if player.number in matches)
-    rows = [seated(event, row, matches[row.player.number]) for row in name_rows(who_sits, by_first)]
+    rows = [seated(event, row, matches[row.player.number], say) for row in name_rows(who_sits, by_first)]
     records = records_before(event, number)
-    drawn = drawn_line(event, number)
-    what, label = f"Round {number}, by name", f"pairings by {'first' if by_first else 'last'} name"
+    drawn = drawn_line(event, number, say)
+    what = say("by_name", number=number)
+    label = say("pairings_by_first_name" if by_first else "pairings_by_last_name")
     return Part("names", what, label, names=tuple(rows), drawn=drawn, records=records, reach=reach)
 
 
-def codes_of(event: Event, number: int, match: Match, secret: Secret) -> tuple[Code, ...]:
+def codes_of(number: int, match: Match, secret: Secret, say: Say) -> tuple[Code, ...]:
     """One for the table, or one for each seat. Seats are named by their players' numbers."""
     found = []
     for seat in secret.seats:
-        who = "" if seat == TABLE else f"No {(match.first, match.second)[seat - 1]}"
+        who = "" if seat == TABLE else say("player_number", number=(match.first, match.second)[seat - 1])
         square = square_of(secret.scanned(secret.target(number, match, seat)))
         code = shown_code(secret.code(number, match, seat))
         found.append(Code(square, secret.shown_address, match.place, code, who))
     return tuple(found)
 
 
-def slips_of(event: Event, number: int, wanted: SlipsFor) -> list[Slip]:
+def slot_named(stage: int, slot: int, first: int, say: Say) -> str:
+    """A match of the playoff."""
+    name = stage_name(stage, first)
+    return say(name, number=slot) if name in NAMES else say("stage_number", number=stage)
+
+
+def slips_of(event: Event, number: int, wanted: SlipsFor, say: Say) -> list[Slip]:
     """A slip for each match that has no score: of the round, and of the playoff."""
     players = event.players
     matches = event.shown_rounds[number - 1] if number else []
     is_newest, secret = number == len(event.rounds), wanted.secret
     slips = [
         Slip(
-            f"Round {number}",
-            f"Table {match.place}",
+            say("round_number", number=number),
+            say("table_number", number=match.place),
             players[match.first],
             players[match.second],
-            codes_of(event, number, match, secret) if secret and is_newest else (),
+            codes_of(number, match, secret, say) if secret and is_newest else (),
         )
         for match in matches
         if match.is_open and (wanted.tables is None or match.place in wanted.tables)
@@ -267,8 +278,8 @@ def slips_of(event: Event, number: int, wanted: SlipsFor) -> list[Slip]:
     for stage, matches in enumerate(event.stages, 1):
         slips += [
             Slip(
-                "Playoff",
-                begun(slot_shown(stage, match.place, event.first_stage)),
+                say("playoff"),
+                slot_named(stage, match.place, event.first_stage, say),
                 players[match.first],
                 players[match.second],
             )
@@ -291,11 +302,11 @@ def letters_of_slip(name: str, room: float = SLIP_ROOM) -> float:
     return size_for(name, SLIP_LETTERS, room, SLIP_LINES)
 
 
-def seats_part(event: Event, by_first: bool, reach: Optional[Reach]) -> Part:
+def seats_part(event: Event, by_first: bool, reach: Optional[Reach], say: Say) -> Part:
     """Where each player sits at the players' meeting: two at a table, by name."""
-    players = players_part(event, by_first)
+    players = players_part(event, by_first, say)
     rows = tuple(replace(row, table=str(at // 2 + 1)) for at, row in enumerate(players.names))
-    what = f"Seats for the players' meeting: {len(rows)}"
+    what = say("seats_count", count=len(rows))
     return Part("seats", what, names=rows, drawn=players.drawn, reach=reach)
 
 
@@ -306,7 +317,7 @@ def own_page(player: Player, enrolled: Player, secret: Secret) -> OwnPage:
     return OwnPage(player, square_of(secret.scanned(target)), at, shown_code(secret.link_code(enrolled)))
 
 
-def links_part(event: Event, wanted: SlipsFor, by_first: bool) -> Optional[Part]:
+def links_part(event: Event, wanted: SlipsFor, by_first: bool, say: Say) -> Optional[Part]:
     """A strip for each player, to be handed out: whoever has it hands in as this player."""
     secret = wanted.secret
     listed_so = [row.player for row in name_rows(event.players.values(), by_first)]
@@ -314,13 +325,13 @@ def links_part(event: Event, wanted: SlipsFor, by_first: bool) -> Optional[Part]
     if not secret or not players:
         return None
     links = tuple(own_page(it, event.enrolled[it.number], secret) for it in players)
-    return Part("links", "A page for each player", links=links)
+    return Part("links", say("own_pages"), links=links)
 
 
-def standings_part(event: Event) -> Part:
+def standings_part(event: Event, say: Say) -> Part:
     complete = event.complete_rounds()
     records = records_of(event.rounds) if complete else {}
-    what = f"Standings after round {complete}"
+    what = say("after_round", number=complete)
     standings = tuple(event.standings)
     return Part("standings", what, standings=standings, records=records, last_in=last_in(event))
 
@@ -334,18 +345,20 @@ def last_in(event: Event) -> int:
     return goes_on[count - 1].number if 0 < count < len(goes_on) or went_on else 0
 
 
-def bracket_part(event: Event) -> Optional[Part]:
-    return Part("bracket", "Playoff", "bracket", drawing=Tree(event).drawn()) if event.stages else None
+def bracket_part(event: Event, say: Say) -> Optional[Part]:
+    if not event.stages:
+        return None
+    return Part("bracket", say("playoff"), say("bracket"), drawing=Tree(event, say).drawn())
 
 
-def final_part(event: Event) -> Optional[Part]:
+def final_part(event: Event, say: Say) -> Optional[Part]:
     ranking = tuple(final_ranking(event))
     if not ranking:
         return None
-    return Part("final", "Final ranking", ranking=ranking, records=records_of(event.rounds))
+    return Part("final", say("final_ranking"), ranking=ranking, records=records_of(event.rounds))
 
 
-def champion_part(event: Event) -> Optional[Part]:
+def champion_part(event: Event, say: Say) -> Optional[Part]:
     """The champion, and how the final ended."""
     champion = event.champion
     if not champion:
@@ -353,32 +366,37 @@ def champion_part(event: Event) -> Optional[Part]:
     (final,) = event.stages[-1]
     won = seen_by(final, champion.number)
     against = event.players[final.opponent_of(champion.number)]
-    return Part("champion", "Champion", champion=Champion(champion, won, against))
+    return Part("champion", say("champion"), champion=Champion(champion, won, against))
 
 
 def part_of(
-    kind: str, event: Event, number: int, wanted: SlipsFor = SlipsFor(), by_first: bool = False
+    kind: str,
+    event: Event,
+    number: int,
+    wanted: SlipsFor = SlipsFor(),
+    by_first: bool = False,
+    say: Say = say_in(DEFAULT),
 ) -> Optional[Part]:
     """A part of the event and of the round of this number, or nothing where there is nothing for it."""
     if kind == "players":
-        return None if event.rounds else players_part(event, by_first)
+        return None if event.rounds else players_part(event, by_first, say)
     if kind == "draw":
-        return draw_part(event, number)
+        return draw_part(event, number, say)
     if kind == "tables":
-        return tables_part(event, number) if number else None
+        return tables_part(event, number, say) if number else None
     if kind == "names":
-        return names_part(event, number, by_first, reach_of(wanted.secret)) if number else None
+        return names_part(event, number, by_first, reach_of(wanted.secret), say) if number else None
     if kind == "slips":
-        slips = slips_of(event, number, wanted)
-        return Part("slips", "Result slips", stacks=stacks_of(slips)) if slips else None
+        slips = slips_of(event, number, wanted, say)
+        return Part("slips", say("result_slips"), stacks=stacks_of(slips)) if slips else None
     if kind == "seats":
-        return seats_part(event, by_first, reach_of(wanted.secret))
+        return seats_part(event, by_first, reach_of(wanted.secret), say)
     if kind == "links":
-        return links_part(event, wanted, by_first)
+        return links_part(event, wanted, by_first, say)
     if kind == "standings":
-        return standings_part(event) if event.rounds else None
+        return standings_part(event, say) if event.rounds else None
     if kind == "final":
-        return final_part(event)
+        return final_part(event, say)
     if kind == "champion":
-        return champion_part(event)
-    return bracket_part(event)
+        return champion_part(event, say)
+    return bracket_part(event, say)
