@@ -1,14 +1,17 @@
-"""Lists that the program does not export: the standings and the playoff as CSV, and the final ranking."""
+"""Lists that the program does not export: the standings, the playoff and the final ranking as CSV, and results
+with names.
+"""
 from __future__ import annotations
 
 import csv
 import io
 import itertools
 from dataclasses import dataclass
-from typing import Iterable, Sequence
+from typing import Iterable, Optional, Sequence
 
 from companions.event import Event
-from companions.lists import Match, Player
+from companions.lists import Match, Player, Players, Rounds
+from companions.records import Record, records_of
 
 
 def csv_of(heading: Sequence[str], rows: Iterable[Sequence[object]]) -> str:
@@ -35,21 +38,27 @@ def standings_csv(event: Event) -> str:
     return csv_of(("rank", "no", "points", "omw", "gwp", "ogw", "dropped", "name"), rows)
 
 
-def playoff_csv(event: Event) -> str:
+def playoff_csv(event: Event, has_names: bool = False) -> str:
     """The columns of the results that the program exports, by stage and slot."""
-    rows = []
-    for stage, matches in enumerate(event.stages, 1):
-        for match in matches:
-            rows.append(
-                (
-                    stage,
-                    match.place,
-                    match.first,
-                    match.second,
-                    *(match.score or ("", "", "")),
-                )
-            )
-    return csv_of(("stage", "slot", "a", "b", "x", "y", "d"), rows)
+    return matches_csv(("stage", "slot"), event.stages, event.players if has_names else None)
+
+
+def results_csv(event: Event) -> str:
+    """What the program exports, with the names of both."""
+    return matches_csv(("round", "table"), event.rounds, event.players)
+
+
+def matches_csv(places: tuple[str, str], lists: Rounds, players: Optional[Players]) -> str:
+    heading = (*places, "a", "b", "x", "y", "d", *(("name_a", "name_b") if players else ()))
+    return csv_of(heading, [match_row(at, it, players) for at, matches in enumerate(lists, 1) for it in matches])
+
+
+def match_row(at: int, match: Match, players: Optional[Players]) -> tuple[object, ...]:
+    """As the program writes it, and the names after it. A bye has no second one."""
+    score = match.score or ("", "", "")
+    seats = match.first, match.second
+    names = [players[it].name if it else "" for it in seats] if players else []
+    return (at, match.place, *seats, *score, *names)
 
 
 @dataclass(frozen=True)
@@ -84,3 +93,17 @@ def final_ranking(event: Event) -> list[Ranked]:
         rank = len(ranked) + 1
         ranked += [Ranked(rank, event.players[number]) for number in group]
     return ranked
+
+
+def final_csv(event: Event) -> str:
+    """The final ranking with points and records of the rounds; who has never sat at a table has none."""
+    records = records_of(event.rounds)
+    rows = [
+        (it.rank, it.player.number, *counts_of(records.get(it.player.number)), it.player.name)
+        for it in final_ranking(event)
+    ]
+    return csv_of(("rank", "no", "points", "won", "lost", "drawn", "name"), rows)
+
+
+def counts_of(record: Optional[Record]) -> tuple[object, ...]:
+    return (record.points, record.won, record.lost, record.drawn) if record else (0, "", "", "")

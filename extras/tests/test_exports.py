@@ -4,12 +4,12 @@ import io
 
 import pytest
 from companions.event import Event
-from companions.exports import final_ranking, playoff_csv, standings_csv
+from companions.exports import final_csv, final_ranking, playoff_csv, results_csv, standings_csv
 from from_model import FromModel
 from scripts.clients.random_evenings import ENDED, IN_PLAYOFF, evening
 from scripts.models.plain_event import Event as Played
 from scripts.models.plain_event import winner
-from scripts.models.plain_page import standings_due
+from scripts.models.plain_page import final_rows, standings_due
 
 
 def rows(text):
@@ -36,6 +36,30 @@ def test_playoff(dice):
         for stage, matches in enumerate(event.stages, 1)
         for slot, (a, b, score) in enumerate(matches, 1)
     ]
+
+
+def test_results_and_playoff_with_names(dice):
+    event = evening(dice, 23, ENDED, 3, 8, True)
+    read = Event(FromModel(event))
+    for text, lists, first in (
+        (results_csv(read), event.stored, ["round", "table"]),
+        (playoff_csv(read, has_names=True), event.stages, ["stage", "slot"]),
+    ):
+        heading, *found = rows(text)
+        assert heading == [*first, "a", "b", "x", "y", "d", "name_a", "name_b"]
+        assert found == [
+            [*map(str, (number, place if b else 0, a, b, *(score or ("", "", "")))), event.names[a - 1], event.names[b - 1] if b else ""]
+            for number, matches in enumerate(lists, 1)
+            for place, (a, b, score) in enumerate(matches, 1)
+        ]
+
+
+def test_the_final_ranking_with_points_and_records(dice):
+    event = evening(dice, 13, ENDED, 3, 4, True)
+    heading, *found = rows(final_csv(Event(FromModel(event))))
+    assert heading == ["rank", "no", "points", "won", "lost", "drawn", "name"]
+    due = [(rank, number, points, *(record.split("-") if record else ["", "", ""]), name) for rank, number, name, record, points in final_rows(event)]
+    assert [tuple(row) for row in found] == due
 
 
 def others_ranked(event, cut):

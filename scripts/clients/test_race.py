@@ -65,6 +65,8 @@ final
 export results
 export standings
 export playoff
+export results names
+export final
 export players {room}/{unique}.csv
 who an
 who {player}

@@ -112,9 +112,15 @@ def test_listing(prompt, program, room, started):
     """CSV, the final ranking, and all matches of a player."""
     event = evening(random.Random(2), 9, ENDED, 2, 4, False)
     file = laid(program.path, f"{room}/e.event", event, "E")
-    text = prompt.said(file, "export standings", "export playoff", "export players", "export results", "export nope")
-    rows = ["rank,no,points,omw,gwp,ogw,dropped,name", "stage,slot,a,b,x,y,d", "no,name,dropped", "round,table,a,b,x,y,d", "There are players"]
+    named = "export results names", "export playoff names", "export final", "export players names", "export nope"
+    text = prompt.said(file, "export standings", "export playoff", "export players", "export results", *named)
+    rows = ["rank,no,points,omw,gwp,ogw,dropped,name", "stage,slot,a,b,x,y,d", "no,name,dropped", "round,table,a,b,x,y,d"]
+    rows += ["round,table,a,b,x,y,d,name_a,name_b", "stage,slot,a,b,x,y,d,name_a,name_b", "rank,no,points,won,lost,drawn,name"]
+    rows += ["It has names already. Of matches: export results names, export playoff names", "There are players"]
     check_said("lists", text, *(f"{it}\n" for it in rows[:-1]), rows[-1])
+    prompt.said(file, f"export results names {room}/r.csv")
+    with open(f"{room}/r.csv", encoding="utf-8") as it:
+        assert it.readline() == "round,table,a,b,x,y,d,name_a,name_b\n", "with names, in a file"
     check_said("a list in a file", prompt.said(file, f"export standings {room}/s.csv", f"export standings {room}/s.csv"), "Written: ", "is there already")
     with open(f"{room}/s.csv", encoding="utf-8") as it:
         assert len(it.read().split("\n")) == len(event.names) + 2, "a list in a file, its lines"

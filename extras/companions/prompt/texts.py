@@ -103,8 +103,9 @@ MORE_COMMANDS = """\
   play qf2 2 1         the score of quarterfinal 2; sf1 is a semifinal, and the
                        final is: play final 2 0
   keys, check 3        the keys; whether round 3 is the one that its key gives
-  export standings     players, results, standings or playoff as CSV
-  export playoff p.csv the same into a new file
+  export standings     players, results, standings, playoff or final as CSV
+  export playoff p.csv the same into a new file; with the names of both players:
+                       export results names, export playoff names
   final                the final ranking, once there is a champion
   print slips          writes FILE.sheets.html, and opens it where it can
   print links 38       the strip of player 38, with the player's page
