@@ -4,8 +4,12 @@ from __future__ import annotations
 import re
 from typing import Optional
 
+from companions.languages import Say
+
 # counted from the end
 NAMES = ("final", "semifinal", "quarterfinal")
+# above the matches of a stage, by how many it has
+HEADINGS = {1: "final", 2: "semifinals", 4: "quarterfinals"}
 # as they are typed
 SHORT = {"final": "final", "semifinal": "sf", "quarterfinal": "qf"}
 # there is one final, so a number after a space belongs to its score
@@ -26,6 +30,11 @@ def slot_shown(stage: int, slot: int, first: int) -> str:
     if name not in NAMES:
         return f"{name}, slot {slot}"
     return name if name == NAMES[0] else f"{name} {slot}"
+
+
+def slot_said(stage: int, slot: int, first: int, say: Say) -> str:
+    """The same for players, in their language."""
+    return say(stage_name(stage, first), number=slot)
 
 
 def slot_typed(stage: int, slot: int, first: int) -> str:

@@ -222,7 +222,7 @@ def test_pages_of_an_event_with_names_of_all_kinds(tmp_path, dice, way):
         for rank, _, shown, is_out, record, points, *shares in plain_page.ranks_due(event)
     ]
     assert rows == due
-    if event.stored:
+    if event.stored and not event.stages:
         newest = room.cache.now.newest
         names = {name for match in newest for name in (match.first, match.second) if name}
         page = room.ask("GET", "/pairings").page()
@@ -844,6 +844,58 @@ def test_own_pages_in_each_phase(tmp_path, dice, way):
         match = room.cache.now.matches.get(number)
         if match and match.is_bye and way == OPEN:
             assert ENGLISH["you_have_a_bye"] in own_page(room, number).root.text()
+
+
+@pytest.mark.parametrize("way", [IN_PLAYOFF, ENDED])
+def test_in_the_playoff_pages_show_the_playoff(tmp_path, dice, way):
+    event = evening(dice, 24, way, 3, 8)
+    room, names = Room(tmp_path, event), event.names
+    for language, table in (("en", ENGLISH), ("de", GERMAN)):
+        page = check_page(room.ask("GET", "/pairings", HTTP_ACCEPT_LANGUAGE=language))
+        headings = [table[key] for key in ("final", "semifinals", "quarterfinals")[3 - len(event.stages) :]]
+        assert [node.text() for node in page.root.of("h2")] == [table["champion"]] * (way == ENDED) + headings
+        due = [
+            [names[one - 1], str(score[seat]) if score else ""]
+            for matches in reversed(event.stages)
+            for a, b, score in matches
+            for seat, one in enumerate((a, b))
+        ]
+        assert [[cell.text() for cell in row.of("td")] for row in page.root.of("tr")] == due
+        assert table["playoff_of"].replace("{event}", "Friday") in page.root.of("h1")[0].text()
+    # who is in it is found with the match, and nobody hands in by phone
+    stage = len(event.stages)
+    first, second, score = event.stages[-1][0]
+    page = check_page(room.ask("GET", f"/?q={quote(names[first - 1])}"))
+    where = ("Quarterfinal 1", "Semifinal 1", "Final")[stage - 1]
+    assert [where, names[first - 1], names[second - 1]] in [[it.text() for it in row.of("td")] for row in page.root.of("tr")]
+    assert page.root.of("input", None)[0].attributes["name"] == "q" and ENGLISH["rounds_are_over"] in page.root.text()
+
+
+def test_own_pages_say_how_it_stands_in_the_playoff(tmp_path):
+    event = Played(1, 4)
+    for name in ("Ana", "Bo", "Cy", "Di", "Ed", "Flo"):
+        event.enrol(name)
+    event.start()
+    event.pair(1, bytes(32))
+    for table in (1, 2, 3):
+        event.report(1, table, (2, 0, 0), True)
+    event.end_rounds()
+
+    def said(number):
+        return own_page(Room(tmp_path, event), number).root.text()
+
+    (a, b, _), (c, d, _) = event.stages[0]
+    (outside, *_) = {1, 2, 3, 4, 5, 6} - {a, b, c, d}
+    assert "Semifinal 1" in said(a) and f"You play against {event.names[b - 1]}." in said(a)
+    assert "Semifinal 2" in said(d) and ENGLISH["not_in_playoff"] in said(outside)
+    event.play(1, 1, (2, 0, 0))
+    assert ENGLISH["playoff_waits"] in said(a) and ENGLISH["playoff_out"] in said(b)
+    event.play(1, 2, (0, 2, 0))
+    assert "Final" in said(a) and f"You play against {event.names[d - 1]}." in said(a)
+    event.play(2, 1, (1, 2, 0))
+    winner, loser = (d, a) if event.stages[1][0][1] == d else (a, d)
+    assert ENGLISH["playoff_won"] in said(winner) and ENGLISH["playoff_out"] in said(loser)
+    assert "Semifinal" in said(winner) and "2-0" in said(winner)
 
 
 def test_with_both_each_player_speaks_by_the_own_link(both):

@@ -80,9 +80,9 @@ class Snapshot:
         return len(self.event.rounds)
 
     @property
-    def pairing(self) -> tuple[Optional[int], int]:
-        """What changes with each round, and when another file is put in place."""
-        return self.inode, self.number
+    def pairing(self) -> tuple[Optional[int], int, int]:
+        """What changes with each round and stage, and when another file is put in place."""
+        return self.inode, self.number, len(self.event.stages)
 
     @property
     def players(self) -> Players:

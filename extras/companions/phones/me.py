@@ -4,6 +4,7 @@ from __future__ import annotations
 from dataclasses import dataclass
 from typing import Optional
 
+from companions.event import Event
 from companions.lists import Match, Player, Standing
 from companions.phones.cache import Snapshot
 from companions.working import Totals, seen_by, totals_of
@@ -31,10 +32,21 @@ class Record:
 class Played:
     """A match as the player sees it. Of a bye there is no opponent."""
 
+    # or the stage of the playoff, and its match
     round: int
     opponent: Optional[Player]
     score: str
-    points: str
+    points: str = ""
+
+
+@dataclass(frozen=True)
+class InPlayoff:
+    """The match that a player has to play in the playoff, or played last; `said` is the text of how it stands."""
+
+    stage: int
+    match: Match
+    opponent: Player
+    said: str
 
 
 @dataclass(frozen=True)
@@ -44,10 +56,11 @@ class Me:
     # of the newest round, or None where the player isn't in it
     match: Optional[Match]
     opponent: Optional[Record]
-    # whom the player has to play in the playoff now
-    in_playoff: Optional[Player]
+    in_playoff: Optional[InPlayoff]
     is_playoff: bool
     played: tuple[Played, ...]
+    # the same of the playoff
+    stages_played: tuple[Played, ...]
     around: tuple[Standing, ...]
 
     @property
@@ -72,6 +85,33 @@ def played_by(snapshot: Snapshot, number: int) -> tuple[Played, ...]:
     return tuple(found)
 
 
+def stages_played_by(snapshot: Snapshot, number: int) -> tuple[Played, ...]:
+    return tuple(
+        Played(stage, snapshot.players[match.opponent_of(number)], seen_by(match, number).short)
+        for stage, matches in enumerate(snapshot.event.stages, 1)
+        for match in matches
+        if match.has(number) and match.score
+    )
+
+
+def in_playoff_of(event: Event, number: int) -> Optional[InPlayoff]:
+    """None for who isn't in it."""
+    matches = [(stage, it) for stage, found in enumerate(event.stages, 1) for it in found if it.has(number)]
+    if not matches:
+        return None
+    stage, match = matches[-1]
+    return InPlayoff(stage, match, event.players[match.opponent_of(number)], said_of(event, match, number))
+
+
+def said_of(event: Event, match: Match, number: int) -> str:
+    if not match.score:
+        return "playoff_now"
+    if event.champion and event.champion.number == number:
+        return "playoff_won"
+    won, lost, _ = seen_by(match, number)
+    return "playoff_waits" if won > lost else "playoff_out"
+
+
 def lines_around(standings: list[Standing], number: int) -> tuple[Standing, ...]:
     at = next((place for place, line in enumerate(standings) if line.player.number == number), None)
     return () if at is None else tuple(standings[max(0, at - LINES_AROUND) : at + LINES_AROUND + 1])
@@ -85,15 +125,14 @@ def me_of(snapshot: Snapshot, number: int) -> Me:
         match = snapshot.match(snapshot.number, match.place)
     opponent = match.opponent_of(number) if match else 0
     is_playoff = bool(event.stages)
-    open_matches = [it for matches in event.stages for it in matches if it.is_open and it.has(number)]
-    rival = open_matches[0].opponent_of(number) if open_matches else 0
     return Me(
         record_of(snapshot, number),
         snapshot.number,
         match,
         record_of(snapshot, opponent) if opponent else None,
-        snapshot.players.get(rival),
+        in_playoff_of(event, number),
         is_playoff,
         played_by(snapshot, number),
+        stages_played_by(snapshot, number),
         lines_around(snapshot.standings, number) if event.complete_rounds() else (),
     )

@@ -14,7 +14,8 @@ from companions.codes import FIRST_SEAT, SECOND_SEAT, TABLE, Secret
 from companions.drawn import drawn_shown, rule_of_event, shut_now, text_of_round
 from companions.draws import Draws
 from companions.entries import Entries, NotEntered
-from companions.languages import plain_in, say_in
+from companions.event import Event
+from companions.languages import Say, plain_in, say_in
 from companions.languages.marked import named, text_in
 from companions.lists import Match, Player
 from companions.names import found_by
@@ -23,7 +24,7 @@ from companions.phones.at_table import AtTable, Link, Typed, drops_in, link_in, 
 from companions.phones.cache import EventCache, Snapshot
 from companions.phones.kept_pages import KeptPages, Shown
 from companions.phones.limits import Crowded, DelayQueues, OriginBuckets, TokenBuckets, origin_of
-from companions.phones.me import me_of
+from companions.phones.me import in_playoff_of, me_of
 from companions.phones.pages import (
     Reply,
     rendered,
@@ -55,6 +56,7 @@ from companions.reports import (
 from companions.rosters import tidy
 from companions.score import Score
 from companions.sheets.parts import records_before
+from companions.stages import HEADINGS, slot_said, stage_name
 from companions.working import part_shown, share_shown, working_of
 
 MOST_FOUND = 20
@@ -95,6 +97,24 @@ class Row:
     table: str
     player: Player
     opponent: Optional[Player]
+
+
+@dataclass(frozen=True)
+class NamedMatch:
+    """A match of the playoff."""
+
+    first: Player
+    second: Player
+    score: Optional[Score]
+
+
+@dataclass(frozen=True)
+class StageShown:
+    """A stage of the playoff with its matches, or the champion."""
+
+    heading: str
+    matches: tuple[NamedMatch, ...]
+    champion: Optional[Player] = None
 
 
 @dataclass(frozen=True)
@@ -186,6 +206,8 @@ class Site(Pages):
     def heading(self, language: str) -> object:
         snapshot = self.cache.now
         event = named(snapshot.title)
+        if snapshot.event.stages:
+            return text_in(language, "playoff_of", event=event)
         return text_in(language, "round", event=event, number=snapshot.number) if snapshot.number else event
 
     def clock(self, language: str) -> str:
@@ -199,7 +221,7 @@ class Site(Pages):
         snapshot = self.cache.now
         wanted = asked.query.get("q", "").strip()[:60]
         found = found_by(wanted, snapshot.by_name, lambda player: player.name) if wanted else []
-        rows = [row_of(snapshot, player) for player in found[:MOST_FOUND]]
+        rows = [row_of(snapshot, player, say_in(asked.language)) for player in found[:MOST_FOUND]]
         return self.page(
             "start.html",
             asked.language,
@@ -209,6 +231,7 @@ class Site(Pages):
             more=len(found) - len(rows),
             is_wrong=is_wrong,
             may_enter=self.entries.is_on,
+            is_playoff=bool(snapshot.event.stages),
         )
 
     # ---- names before they are enrolled
@@ -260,7 +283,10 @@ class Site(Pages):
         )
 
     def pairings(self, snapshot: Snapshot, language: str) -> bytes:
-        rows = [row_of(snapshot, player) for player in snapshot.by_name if player.number in snapshot.matches]
+        say = say_in(language)
+        if snapshot.event.stages:
+            return self.page("playoff.html", language, stages=stages_shown(snapshot.event, say)).body
+        rows = [row_of(snapshot, it, say) for it in snapshot.by_name if it.number in snapshot.matches]
         text = text_of_round(snapshot.event, snapshot.number)
         has_draw = rule_of_event(self.cache.file) is not None
         drawn = drawn_shown(text, say_in(language)) if rows else ""
@@ -424,6 +450,7 @@ class Site(Pages):
         me = me_of(snapshot, player.number)
         words: dict[str, Any] = {"me": self.secret.link(player), "own": me, "is_moved": is_moved}
         words["records"] = records_now(snapshot.event)
+        words.update(slot_said=slot_said, stage_name=stage_name, first=snapshot.event.first_stage)
         words.update(seconds=0 if is_still else SECONDS_TO_RELOAD, is_still=is_still)
         words.update(at=None, state="", call=None)
         if me.match and not me.match.is_bye and not me.is_playoff:
@@ -471,7 +498,8 @@ class Site(Pages):
             if at.me and "said" not in query:
                 return Reply(303, b"", [("Location", at.me)])
             snapshot = at.snapshot
-            rows = [row_of(snapshot, snapshot.players[number]) for number in at.seats]
+            say = say_in(at.asked.language)
+            rows = [row_of(snapshot, snapshot.players[number], say) for number in at.seats]
             return self.shown_again(at, "over.html", score=self.with_names(at, match.score), rows=rows)
         is_wrong = query.get("wrong") == "1"
         score = score_in(query)
@@ -637,12 +665,32 @@ def outcome_of(answer: Answer, stored: Optional[Score], said: Score) -> str:
     return f"refused {answer.refused}"
 
 
-def row_of(snapshot: Snapshot, player: Player) -> Row:
-    match = snapshot.matches.get(player.number)
+def row_of(snapshot: Snapshot, player: Player, say: Say) -> Row:
+    """The table of the newest round, or the match of the playoff."""
+    event = snapshot.event
+    place = in_playoff_of(event, player.number)
+    if place:
+        where = slot_said(place.stage, place.match.place, event.first_stage, say)
+        return Row(where, player, place.opponent)
+    match = None if event.stages else snapshot.matches.get(player.number)
     if match is None:
         return Row("-", player, None)
     opponent = snapshot.players.get(match.opponent_of(player.number))
-    return Row("bye" if match.is_bye else str(match.place), player, opponent)
+    return Row(say("bye") if match.is_bye else str(match.place), player, opponent)
+
+
+def stages_shown(event: Event, say: Say) -> list[StageShown]:
+    """The newest stage first."""
+    shown = [
+        StageShown(say(HEADINGS[len(matches)]), tuple(match_shown(event, match) for match in matches))
+        for matches in reversed(event.stages)
+    ]
+    champion = event.champion
+    return [StageShown(say("champion"), (), champion), *shown] if champion else shown
+
+
+def match_shown(event: Event, match: Match) -> NamedMatch:
+    return NamedMatch(event.players[match.first], event.players[match.second], match.score)
 
 
 def clock_shown(clock: Optional[Clock], now: float, language: str) -> str:

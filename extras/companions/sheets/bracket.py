@@ -8,6 +8,7 @@ from companions.event import Event
 from companions.languages import Say
 from companions.lists import Match, Matches, Player
 from companions.sheets.widths import width_of
+from companions.stages import HEADINGS
 
 BOX_WIDTH, GAP, LINE, PADDING, BETWEEN, TOP, CHAMPION_BELOW = 250, 40, 20, 12, 30, 34, 44
 NAME_ROOM, LETTER, SMALL_LETTER, SMALL_LINE = 140, 16, 11, 14
@@ -15,7 +16,6 @@ NAME_ROOM, LETTER, SMALL_LETTER, SMALL_LINE = 140, 16, 11, 14
 FINAL, CHAMPION = 1.25, 1.5
 # which seeds meet in the slots of the first stage, by how many slots there are
 SEEDS = {1: ((1, 2),), 2: ((1, 4), (2, 3)), 4: ((1, 8), (4, 5), (2, 7), (3, 6))}
-STAGE_NAMES = {1: "final", 2: "semifinals", 4: "quarterfinals"}
 
 
 def lines_for(name: str, letter: int = LETTER) -> int:
@@ -187,7 +187,7 @@ class Tree:
     def drawn(self) -> Drawing:
         for stage in range(self.columns):
             slots = self.first >> stage
-            self.add_heading(stage, self.say(STAGE_NAMES.get(slots, "stage_number"), number=stage + 1))
+            self.add_heading(stage, self.say(HEADINGS[slots]))
             for slot in range(slots):
                 self.add_match(stage, slot)
         if self.event.bracket.champion is not None:

@@ -17,7 +17,7 @@ from companions.score import Score
 from companions.sheets.bracket import Drawing, Tree
 from companions.sheets.squares import square_of
 from companions.sheets.widths import size_for
-from companions.stages import NAMES, stage_name
+from companions.stages import slot_said
 from companions.working import is_complete, seen_by
 
 DEFAULT_PARTS = ("players", "draw", "tables", "names", "slips", "standings", "bracket", "final")
@@ -253,12 +253,6 @@ def codes_of(number: int, match: Match, secret: Secret, say: Say) -> tuple[Code,
     return tuple(found)
 
 
-def slot_named(stage: int, slot: int, first: int, say: Say) -> str:
-    """A match of the playoff."""
-    name = stage_name(stage, first)
-    return say(name, number=slot) if name in NAMES else say("stage_number", number=stage)
-
-
 def slips_of(event: Event, number: int, wanted: SlipsFor, say: Say) -> list[Slip]:
     """A slip for each match that has no score: of the round, and of the playoff."""
     players = event.players
@@ -279,7 +273,7 @@ def slips_of(event: Event, number: int, wanted: SlipsFor, say: Say) -> list[Slip
         slips += [
             Slip(
                 say("playoff"),
-                slot_named(stage, match.place, event.first_stage, say),
+                slot_said(stage, match.place, event.first_stage, say),
                 players[match.first],
                 players[match.second],
             )
