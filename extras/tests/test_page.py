@@ -36,6 +36,13 @@ def board(event, clock=None):
     return Page(page_of(read, "Friday", len(event.stored), parts_of_board(read), Board(clock)))
 
 
+def test_standings_that_are_asked_for_before_a_round_is_complete(dice):
+    event = evening(dice, 9, STARTED, 3, 0)
+    event.pair(1, bytes(32))
+    (part,) = Page(page_of(Event(FromModel(event)), "Friday", 1, ("standings",), Board())).root.of("section", "part")
+    assert len(part.of("tr")) - len(part.of("tr", "top")) - len(part.of("tr", "heads")) == 9
+
+
 def test_the_clock_stands_on_the_board(dice, monkeypatch):
     monkeypatch.setenv("TZ", "UTC")
     time.tzset()

@@ -1,6 +1,7 @@
 """Sheets and boards as a browser lays them out: on paper, A4 and Letter, read back by `pdftotext`; on screens of three sizes, with the clock and the parts
 in turn; and slips of one height.
 """
+import functools
 import html
 import json
 import os
@@ -205,6 +206,7 @@ const measured = part => {
     names: [...document.querySelectorAll(".now td bdi, .now .seat bdi")].filter(seen).map(it => [it.textContent, lines(it)]),
     bottom: Math.max(0, ...all.map(it => it.bottom), ...bottoms(".now .tree, .now .seat")),
     wide: document.documentElement.scrollWidth,
+    high: innerHeight,
     looks: looks ? (looks.scrollWidth + parseFloat(getComputedStyle(looks).columnGap)) / (looks.clientWidth + parseFloat(getComputedStyle(looks).columnGap)) : 1,
     cut: looks ? looks.scrollHeight - looks.clientHeight : 0,
     rows: part ? [...part.querySelectorAll("tbody tr:not(.heads)")].map(it => it.getBoundingClientRect()).filter(it => it.bottom > part.getBoundingClientRect().bottom + 1).length : 0,
@@ -239,12 +241,25 @@ def without_policy(text):
     return re.sub('<meta http-equiv="[^"]*"[^>]*>', "", text)
 
 
-def found_in(browser, room, text, script, screen):
-    """What the script, at the end of the head, puts on the page."""
+def dumped(browser, room, text, width, height):
+    """A page as it is after its scripts have run."""
     path = f"{room}/screen.html"
     with open(path, "w", encoding="utf-8") as it:
-        it.write(without_policy(text).replace("</head>", f"{script}</head>"))
-    printed = browse(browser, room, path, f"--window-size={screen[0]},{screen[1]}", "--virtual-time-budget=2000", "--dump-dom")
+        it.write(text)
+    return browse(browser, room, path, f"--window-size={width},{height}", "--virtual-time-budget=2000", "--dump-dom")
+
+
+@functools.lru_cache(maxsize=None)
+def frame_of(browser, room):
+    """How much higher a window is than what it shows."""
+    page = "<!DOCTYPE html><body><script>document.body.textContent = `shows ${innerHeight}.`</script>"
+    return 1000 - int(re.search(rb"shows (\d+)\.", dumped(browser, room, page, 1000, 1000))[1])
+
+
+def found_in(browser, room, text, script, screen):
+    """What the script, at the end of the head, puts on the page."""
+    page = without_policy(text).replace("</head>", f"{script}</head>")
+    printed = dumped(browser, room, page, screen[0], screen[1] + frame_of(browser, room))
     found = re.search('<pre id="found">(.*?)</pre>', printed.decode(), re.S)
     return json.loads(html.unescape(found[1]))
 
@@ -261,7 +276,7 @@ def named_long(event):
 
 def check_layout(part, layout, screen):
     assert [it for it in layout["names"] if it[1] > len(it[0].split())] == [], f"{part}, names"
-    assert layout["wide"] <= screen[0], f"{part}, nothing beside the screen"
+    assert (layout["wide"] <= screen[0], layout["high"]) == (True, screen[1]), f"{part}, nothing beside the screen"
     assert layout["bottom"] <= screen[1], f"{part}, above the fold"
     assert (layout["rows"], layout["over"]) == (0, []), f"{part}, nothing is cut, and nothing lies over anything"
     assert layout["smallest"] >= LEAST_LETTERS * screen[0] / 100, f"{part}, letters"

@@ -201,9 +201,9 @@ def parts_for(
 
 
 def for_board(part: Part) -> Part:
-    """Who has never sat at a table stands on paper only."""
+    """Who has never sat at a table stands on paper only, once a round is complete."""
     seen = tuple(row for row in part.standings if row.player.number in part.records)
-    return replace(part, standings=seen)
+    return replace(part, standings=seen) if seen else part
 
 
 def colours_of(look: Look, is_board: bool) -> dict[str, str]:

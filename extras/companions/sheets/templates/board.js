@@ -37,19 +37,27 @@
   const step = scroller => scroller.clientWidth + gapOf(scroller);
   const countOf = scroller => (scroller ? Math.ceil((scroller.scrollWidth + gapOf(scroller)) / step(scroller) - 0.01) : 1);
 
-  // letters may be wider here than they were counted on: then all of a list becomes a little smaller
+  // letters are narrower or wider here than they were counted on: so all of a list becomes a little larger or smaller
   const sizes = new Map(parts.map(part => [part, Number(part.style.getPropertyValue("--size"))]));
-  const LEAST = 0.75, SMALLER = 0.96;
+  const LEAST = 0.75, MOST = 1.4, STEP = 1.04;
   const isCut = part => {
     const scroller = scrollerOf(part);
-    return scroller.scrollHeight > scroller.clientHeight + 1 || ("whole" in part.dataset && countOf(scroller) > 1);
+    return scroller.scrollHeight > scroller.clientHeight || ("whole" in part.dataset && countOf(scroller) > 1);
   };
+  const LINE = 1.25;
+  const linesOf = cell => Math.round(cell.clientHeight / LINE / parseFloat(getComputedStyle(cell).fontSize));
+  const linesIn = part => [...part.querySelectorAll("td.name, td.opponent")].reduce((sum, cell) => sum + linesOf(cell), 0);
   const fit = part => {
-    const size = sizes.get(part);
-    for (let at = size; size && at > LEAST * size; at *= SMALLER) {
-      part.style.setProperty("--size", at);
-      if (!isCut(part)) return;
-    }
+    const size = sizes.get(part), set = at => part.style.setProperty("--size", at);
+    if (!size) return;
+    let at = size;
+    set(at);
+    while (isCut(part) && at > LEAST * size) set((at /= STEP));
+    if (at < size || !("whole" in part.dataset)) return;
+    const lines = linesIn(part);
+    const isTooMuch = () => isCut(part) || linesIn(part) > lines;
+    while (at < MOST * size && !isTooMuch()) set((at *= STEP));
+    if (isTooMuch()) set(at / STEP);
   };
 
   const looksOf = part => {
