@@ -108,6 +108,9 @@ def heights_in(rows: list[Names], part: Part, layout: Layout, may_break: bool) -
 
 
 def fits(rows: list[Names], part: Part, layout: Layout, may_break: bool) -> bool:
+    if len(rows) * (LINE + AROUND) / layout.columns > height_for(part, layout):
+        # also if each name takes one line, so that no name has to be looked at
+        return False
     heights = heights_in(rows, part, layout, may_break)
     if heights is None:
         return False
