@@ -13,7 +13,7 @@ import pytest
 pytest.importorskip("jinja2")
 
 from companions.clock import Clock, keep_clock
-from companions.codes import Secret, shown_code
+from companions.codes import Secret, keep_secret, shown_code
 from companions.event import Event
 from companions.languages import LANGUAGES
 from companions.phones import site as module
@@ -28,6 +28,7 @@ from companions.notes import Notes
 from companions.plan import Plan
 from companions.reports import OTHER, STORED, WRONG, Reports, judge_call
 from companions.score import Score
+from companions.sheets.making import Wanted, page_maker
 from contrasts import contrast
 from from_model import FromModel
 from scripts.clients.random_evenings import COMPLETE, ENDED, ENROLLING, HOSTILE, IN_PLAYOFF, OPEN, STARTED, evening
@@ -299,6 +300,15 @@ def test_the_clock_stands_on_each_page(room):
     # it goes by the time of the scorekeeper's machine, which stands in the head
     assert "data-sent" in board.page().root.of("body")[0].attributes
     assert before - 1 <= parsedate_to_datetime(board.headers["Last-Modified"]).timestamp() <= time.time()
+
+
+def test_the_board_is_the_page_of_the_sheets(room):
+    """But that it says to whom it is sent."""
+    secret = Secret(AT, bytes(32))
+    keep_secret(room.file, secret)
+    keep_clock(room.file, Clock(0, 50))
+    made = page_maker(Wanted(room.file, title="Friday", is_board=True))(Event(FromModel(room.event), room.file))
+    assert room.ask("GET", "/board").text.replace(" data-sent", "", 1) == made
 
 
 def test_the_event_s_name_is_asked_once_for_each_picture(room, monkeypatch):

@@ -100,6 +100,7 @@ def check_paper(name, paper, event, size, parts):
         found = [[f"Round{number}Table{table}" for table in re.findall(r"\bTable (\d+)\b", text)] for text in texts]
         assert found == order, f"{name}, slips, in cutting order"
         assert len(of["slips"]) <= len(slips) // 4 + 1, f"{name}, slips, few sheets"
+        assert all(re.search(r"^printed", text, re.M) for text in texts), f"{name}, slips, when they were printed"
     if "final" in of:
         missing = [it for it in final_due(event) if not any(joined("".join(it)) in text for text in of["final"])]
         assert missing == [], f"{name}, final ranking, each line whole on one sheet"

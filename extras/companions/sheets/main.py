@@ -38,7 +38,8 @@ result slips to cut for the tables that have no score yet, standings, the
 bracket, and the final ranking. Open it in a browser and print it: each part
 begins a page of its own. At a terminal it goes into FILE.sheets.html, or with
 --board into FILE.board.html; into a pipe or a file it is printed. Where phones
-hand in (event-phones), each slip of the newest round has its code.
+hand in (event-phones), each slip of the newest round has its code. FILE.look
+may give a subtitle, an accent colour, a logo, and the language of the room.
 """
 
 EXAMPLES = """\
