@@ -366,9 +366,11 @@ def watched(sheets, program, room, dice, browser):
         it.write(f"until {UNTIL} of 50\n")
     _, text, _ = sheets.printed(file, "--board", env={**os.environ, "TZ": "UTC"})
 
-    def shown(*left):
+    def shown(*left, script=HELD, page=text):
         seconds = [round(UNTIL - it, 3) for it in left]
-        return found_in(browser, room, text, HELD.replace("SECONDS", json.dumps(seconds)), (1920, 1080))
+        return found_in(browser, room, page, script.replace("SECONDS", json.dumps(seconds)), (1920, 1080))
+
+    shown.text = text
 
     return shown
 
@@ -392,6 +394,28 @@ def test_the_clock_counts_down_to_a_second(watched):
         ["clock over", "+3:12", after],
         ["clock over", "+60:00", after],
     ]
+
+
+# what a page says that was sent by another machine, at this second, and loaded at another one of the own clock
+SENT = """
+<script>
+const sent = new Date(SENT_AT * 1000), two = it => String(it).padStart(2, "0");
+const day = `${two(sent.getMonth() + 1)}/${two(sent.getDate())}/${sent.getFullYear()}`;
+Object.defineProperty(document, "lastModified", { value: `${day} ${[sent.getHours(), sent.getMinutes(), sent.getSeconds()].map(two).join(":")}` });
+</script>
+"""
+
+
+@pytest.mark.needs("the board on a screen", command=BROWSERS)
+@pytest.mark.parametrize("ahead", [-90, 0, 7200])
+def test_a_board_of_another_machine_goes_by_the_clock_of_the_one_that_sent_it(watched, ahead):
+    """It was sent with twenty minutes left, and is loaded at once, whatever the clock beside it says."""
+    loaded = UNTIL - 1200 + ahead
+    script = SENT.replace("SENT_AT", str(UNTIL - 1200)) + HELD.replace("let at = 0", f"let at = {loaded}")
+    page = watched.text.replace('<body class="board"', '<body class="board" data-sent')
+    found = watched(1200 - ahead, 1199 - ahead, 600 - ahead, -ahead, -1 - ahead, script=script, page=page)
+    # the head has no parts of a second, so it is half a second on the average
+    assert [it[1] for it in found] == ["20:00", "19:59", "10:00", "+0:00", "+0:01"]
 
 
 @pytest.mark.needs("the board on a screen", command=BROWSERS)
