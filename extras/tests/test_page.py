@@ -13,8 +13,9 @@ from companions.codes import Secret, shown_code
 from companions.event import Event
 from companions.languages import say_in
 from companions.look import Look
+from companions.plan import Plan
 from companions.sheets.colours import DARK, LIGHT, PRINTED
-from companions.sheets.page import Board, Foot, Playing, board_of, page_of, parts_of_board, playing_in
+from companions.sheets.page import Board, Foot, Playing, board_of, page_of, parts_of_board, playing_in, where_in
 from companions.sheets.parts import (
     DEFAULT_PARTS,
     ROOM_BESIDE_A_CODE,
@@ -83,7 +84,7 @@ def test_sheets_and_board_are_in_the_language_of_the_room(dice):
     assert {it.text() for it in root.of("span", "signature")} <= {"Unterschrift"}
     words = {it.text().split()[0] for it in root.of("span", "round")}
     assert words <= {"Runde"} and all(it.text().startswith("gedruckt ") for it in root.of("span", "made"))
-    board = page_of(read, "Freitag", number, parts_of_board(read), board_of(read, None, None, german), look=look)
+    board = page_of(read, "Freitag", number, parts_of_board(read), board_of(read, number, None, None, german), look=look)
     root = Page(board).root
     assert root.one("p", "playing").startswith(("Fertige Tische: ", "Alle Ergebnisse sind da."))
     assert "Paarungen nach Nachnamen" in [it.text() for it in root.of("p", "label")]
@@ -121,6 +122,16 @@ def test_rows_stand_close_where_they_fit_one_page_so(count, is_so):
     assert ("close" in part.kinds()) == is_so
 
 
+def test_the_band_says_which_round_is_shown(dice):
+    played = Event(FromModel(evening(dice, 11, ENDED, 3, 4)))
+    played.plan = Plan("Friday", 3, 4)
+    assert [where_in(played, number, ENGLISH) for number in (1, 2, 3)] == ["Round 1 of 3", "Round 2 of 3", "Playoff"]
+    before = Event(FromModel(evening(dice, 11, ENROLLING, 3, 4)))
+    assert where_in(before, 0, ENGLISH) == ""
+    # the plan can't be read
+    assert where_in(Event(FromModel(evening(dice, 11, OPEN, 1, 0))), 1, ENGLISH) == "Round 1"
+
+
 def test_a_board_stays_on_the_names_while_nobody_has_finished(dice):
     event = evening(dice, 9, STARTED, 3, 0)
     event.pair(1, bytes(32))
@@ -128,7 +139,7 @@ def test_a_board_stays_on_the_names_while_nobody_has_finished(dice):
         if score:
             event.report(1, 3, score, True)
         read = Event(FromModel(event))
-        text = page_of(read, "Friday", 1, parts_of_board(read), board_of(read, None, None, ENGLISH))
+        text = page_of(read, "Friday", 1, parts_of_board(read), board_of(read, 1, None, None, ENGLISH))
         (body,) = Page(text).root.of("body")
         assert ("data-nobody-finished" in body.attributes) == is_said
 
@@ -181,7 +192,7 @@ def test_the_foot_of_a_board(dice):
     event.pair(1, bytes(32))
     event.report(1, 3, (2, 0, 0), True)
     read, secret = Event(FromModel(event)), Secret("http://192.168.1.10:8080", bytes(32))
-    text = page_of(read, "Friday", 1, parts_of_board(read), board_of(read, None, secret, ENGLISH))
+    text = page_of(read, "Friday", 1, parts_of_board(read), board_of(read, 1, None, secret, ENGLISH))
     root = Page(text).root
     assert root.one("p", "playing") == "Tables finished: 1 of 4. Still playing: 1, 2, 4"
     assert root.one("p", "address") == "Your table and your score on your phone: 192.168.1.10:8080"

@@ -6,10 +6,12 @@ import html
 import json
 import os
 import re
+import struct
 import subprocess
 
 import pytest
 
+from scripts.clients import pictures
 from scripts.clients.random_evenings import COMPLETE, ENDED, HOSTILE, IN_PLAYOFF, OPEN, STARTED, evening, laid
 from scripts.clients.sheets import BROWSERS
 from scripts.clients.waiting import PATIENCE
@@ -323,6 +325,17 @@ def test_screen_in_german(sheets, program, room, dice, browser, way):
     _, text, _ = sheets.printed(file, "--board", "--title", "Das große Freitagsturnier")
     for part, layout in list(laid_out(browser, room, text).items())[1:]:
         check_layout(part, layout, (1920, 1080))
+
+
+@pytest.mark.needs("the board on a screen", command=BROWSERS)
+def test_pictures_are_drawn(room, browser):
+    """One of those that people look at, of the size of its screen."""
+    name, what, how, screen = next(pictures.boards())
+    drawing = pictures.Room(browser, room, room)
+    drawing.shoot(name, drawing.page(*what, **how), screen)
+    with open(f"{room}/{name}.png", "rb") as it:
+        head = it.read(24)
+    assert (head[1:4], struct.unpack(">II", head[16:24])) == (b"PNG", screen)
 
 
 # ---- the clock, and the parts in turn

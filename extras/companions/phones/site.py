@@ -345,7 +345,7 @@ class Site(Pages):
 
         event = snapshot.event
         say = say_in(snapshot.look.language)
-        board = board_of(event, self.cache.clock, self.secret, say, is_sent=True)
+        board = board_of(event, snapshot.number, self.cache.clock, self.secret, say, is_sent=True)
         kinds, look = parts_of_board(event), snapshot.look
         return page_of(event, snapshot.title, snapshot.number, kinds, board, look=look).encode("utf-8")
 

@@ -90,7 +90,7 @@ def page_maker(wanted: Wanted) -> Callable[[Event], str]:
         if not parts and not wanted.may_be_empty:
             raise Declined(NOTHING.get(kinds[0], "There is nothing to print yet."))
         title = shown_text(wanted.title) if wanted.title else title_of(file, event.source.turn)
-        board = board_of(event, kept_clock(file), kept_secret(file), say) if wanted.is_board else None
+        board = board_of(event, number, kept_clock(file), kept_secret(file), say) if wanted.is_board else None
         return rendered(parts, title, number, board, replace(look, is_dark=True) if wanted.is_dark else look)
 
     return make

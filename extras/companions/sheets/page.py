@@ -176,15 +176,23 @@ def notes_of(event: Event) -> tuple[Note, ...]:
 
 
 def board_of(
-    event: Event, clock: Optional[Clock], secret: Optional[Secret], say: Say, is_sent: bool = False
+    event: Event,
+    number: int,
+    clock: Optional[Clock],
+    secret: Optional[Secret],
+    say: Say,
+    is_sent: bool = False,
 ) -> Board:
-    return Board(clock, where_in(event, say), foot_of(event, secret, say), notes_of(event), is_sent)
+    """What is beside the parts of the event and of the round of this number."""
+    return Board(clock, where_in(event, number, say), foot_of(event, secret, say), notes_of(event), is_sent)
 
 
-def where_in(event: Event, say: Say) -> str:
-    number, plan = len(event.rounds), event.plan
-    if event.stages or not number:
-        return say("playoff") if event.stages else ""
+def where_in(event: Event, number: int, say: Say) -> str:
+    plan, is_newest = event.plan, number == len(event.rounds)
+    if event.stages and is_newest:
+        return say("playoff")
+    if not number:
+        return ""
     return say("round_of", number=number, rounds=plan.rounds) if plan else say("round_number", number=number)
 
 
