@@ -1,12 +1,13 @@
 """What the players read, by language."""
-import json
 import os
 import re
 import string
+import sys
 
 import pytest
 from companions.languages import DEFAULT, FOLDER, LANGUAGES, TABLES, language_for, missing_in
 from conftest import EXTRAS
+from scripts.package import languages
 
 
 def braces(text):
@@ -37,7 +38,17 @@ def test_english_and_german_are_whole_and_what_is_begun_is_not_offered():
 def test_a_table_is_laid_out_as_the_template_writes_it(language):
     with open(os.path.join(FOLDER, f"{language}.json"), encoding="utf-8") as table:
         text = table.read()
-    assert text == json.dumps(TABLES[language], ensure_ascii=False, indent=1) + "\n"
+    assert text == languages.written(languages.template(TABLES[language]))
+
+
+def test_the_template_says_what_is_missing(monkeypatch, capsys):
+    assert languages.template({"name": "Nome", "of no use": "x"}) == {**dict.fromkeys(ENGLISH, ""), "name": "Nome"}
+    monkeypatch.setattr(sys, "argv", ["languages", "fr"])
+    languages.main()
+    *named, last = capsys.readouterr().out.splitlines()
+    missing = missing_in(TABLES["fr"], ENGLISH)
+    assert named == [f"{key}: {ENGLISH[key]}" for key in missing]
+    assert last == f"fr: {len(missing)} of {len(ENGLISH)} texts are missing"
 
 
 def sources():
