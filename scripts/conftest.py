@@ -126,10 +126,18 @@ def program(request):
     return Program(request.config.option.program)
 
 
+def is_inside(request):
+    """Whether a test asks for the prompt in its own process, and for a folder in memory."""
+    return request.node.get_closest_marker("inside") is not None
+
+
 @pytest.fixture
-def room():
+def room(request):
     """An empty folder. It is no `tmp_path`: those lie below a folder that other users can't go through, and three runs of them are kept."""
-    folder = tempfile.TemporaryDirectory()
+    # not at the head, as the prompt below
+    from scripts.clients.inside import IN_MEMORY
+
+    folder = tempfile.TemporaryDirectory(dir=IN_MEMORY if is_inside(request) else None)
     yield folder.name
     assert comes(lambda: is_removed(folder))
 
@@ -152,12 +160,14 @@ def extras():
 
 
 @pytest.fixture
-def prompt(program, extras):
+def prompt(request, program, extras):
     """The scorekeeper's prompt, by a pipe or in a terminal of its own. What still runs at the end is killed."""
-    # not at the head: it has to be imported once its checks are counted
+    # not at the head: they have to be imported once their checks are counted
+    from scripts.clients.inside import InsidePrompt
     from scripts.clients.prompt import Prompt
 
-    with Prompt(program.path, f"{extras}/event-desk") as it:
+    begun = InsidePrompt if is_inside(request) else Prompt
+    with begun(program.path, f"{extras}/event-desk") as it:
         yield it
 
 

@@ -6,17 +6,16 @@ import hashlib
 import itertools
 import os
 import shutil
-import tempfile
 
 import pytest
 
-from scripts.clients.inside import IN_MEMORY, InsidePrompt
 from scripts.clients.prompt import check_said, keys_of, unfilled
 from scripts.clients.traced import can_trace, is_killed_in, killing, system_calls
 from scripts.models import event_check
 from scripts.models.plain_event import printed
 from scripts.models.plain_file import read
 
+pytestmark = pytest.mark.inside
 SEVEN = tuple(f"P{number}" for number in range(1, 8))
 FOUR = "Ana", "Bo", "Cy", "Di"
 FIRST = "5d014256fdbc02910c032a167689ab331067849aef87354364eb3751b54dde66"
@@ -52,18 +51,6 @@ def key_of(number, drawn):
 
 def seats(file, number):
     return [match[:2] for match in read(file).stored[number - 1]]
-
-
-@pytest.fixture
-def room():
-    with tempfile.TemporaryDirectory(dir=IN_MEMORY) as it:
-        yield it
-
-
-@pytest.fixture
-def prompt(program, extras):
-    with InsidePrompt(program.path, f"{extras}/event-desk") as it:
-        yield it
 
 
 @pytest.fixture

@@ -4,17 +4,16 @@ between all steps. Nothing is wrong with them, so `event-check` must not say tha
 import os
 import random
 import re
-import tempfile
 
 import pytest
 
-from scripts.clients.inside import IN_MEMORY, InsidePrompt
 from scripts.clients.random_evenings import is_of_swiss, lawful
 from scripts.models import event_check
 from scripts.models.plain_event import is_complete
 from scripts.models.plain_file import read
 from scripts.models.random_play import random_score
 
+pytestmark = pytest.mark.inside
 CASES = {"case": (1, 1000)}
 MOST_CALLS = 70
 LINE = re.compile(r"(number|drawing|by|instead|after|mark|key) (.+)")
@@ -124,17 +123,6 @@ class DrawnEvening:
                 self.change()
             if self.maybe(0.2):
                 self.go_back()
-
-
-@pytest.fixture
-def room():
-    with tempfile.TemporaryDirectory(dir=IN_MEMORY) as it:
-        yield it
-
-
-@pytest.fixture
-def prompt(program, extras):
-    return InsidePrompt(program.path, f"{extras}/event-desk")
 
 
 def test_an_honest_evening(program, prompt, dice, room, case, capsys):
