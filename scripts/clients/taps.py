@@ -14,6 +14,8 @@ import time
 from scripts.clients.waiting import PATIENCE
 
 WIDTH, HEIGHT = 360, 640
+# why a page gives way to the next one if somebody has tapped, and not because it loads itself again
+TAPPED = ("anchorClick", "formSubmissionGet", "formSubmissionPost")
 
 
 class Browser:
@@ -85,6 +87,7 @@ class Phone:
         self.session = browser.send("Target.attachToTarget", targetId=target, flatten=True)["sessionId"]
         self.events = browser.events[self.session] = queue.Queue()
         self.send("Page.enable")
+        self.send("Page.setLifecycleEventsEnabled", enabled=True)
         self.send("Emulation.setDeviceMetricsOverride", width=width, height=height, deviceScaleFactor=1, mobile=True)
         self.send("Emulation.setTouchEmulationEnabled", enabled=True)
         self.send("Emulation.setScriptExecutionDisabled", value=True)
@@ -95,16 +98,20 @@ class Phone:
     def send(self, method, **words):
         return self.browser.send(method, self.session, **words)
 
-    def loaded(self):
-        """Waits until the next page is there."""
-        while self.events.get(timeout=PATIENCE)["method"] != "Page.loadEventFired":
+    def passed(self, is_it):
+        """Waits for this event."""
+        while not is_it(self.events.get(timeout=PATIENCE)):
             pass
 
+    def loaded(self):
+        """Waits until the page is there that was tapped for. A page that loads itself again meanwhile is another one."""
+        self.passed(lambda it: it["method"] == "Page.frameRequestedNavigation" and it["params"]["reason"] in TAPPED)
+        self.passed(lambda it: it["method"] == "Page.loadEventFired")
+
     def go(self, url):
-        while not self.events.empty():
-            self.events.get()
-        self.send("Page.navigate", url=url)
-        self.loaded()
+        loader = self.send("Page.navigate", url=url)["loaderId"]
+        whole = {"name": "load", "loaderId": loader}
+        self.passed(lambda it: it["method"] == "Page.lifecycleEvent" and whole.items() <= it["params"].items())
 
     def value(self, expression):
         told = self.send("Runtime.evaluate", expression=expression, returnByValue=True)
