@@ -45,14 +45,8 @@ def made(program, file, players=8, rounds=3, cut=0, results=()):
 
 
 def asked(program, words):
-    """What a command line prints. Where what was just killed has the file for a moment, it is asked once more."""
-    for _ in range(200):
-        status, text, errors = Program(program).run(*words)
-        if errors != b"refused 25 Store\n":
-            break
-        time.sleep(0.05)
-    assert (status, errors) == (0, b""), f"{words[0]} answers"
-    return text.decode()
+    """What a command line prints that has to be taken."""
+    return Program(program).did(*words).decode()
 
 
 def results(program, file):

@@ -3,8 +3,10 @@ import resource
 import signal
 import subprocess
 
-from scripts.clients.waiting import PATIENCE
+from scripts.clients.waiting import PATIENCE, comes
 
+# what a command line is answered while another program has the file
+BUSY = b"refused 25 Store\n"
 
 # what `stand_in` makes of this is killed before a command, if there is FILE.before, or after it, if there is FILE.behind. The prompt asks with `drop 0` and
 # with an empty name in which phase the event is: these are answered.
@@ -34,8 +36,15 @@ class Program:
         return ran.returncode, ran.stdout, ran.stderr
 
     def did(self, *words):
-        """What a command line prints that has to be taken."""
-        status, out, err = self.run(*words)
+        """What a command line prints that has to be taken. While another program has the file, it is sent again, as a scorekeeper would."""
+        ran = []
+
+        def is_answered():
+            ran.append(self.run(*words))
+            return ran[-1][2] != BUSY
+
+        comes(is_answered)
+        status, out, err = ran[-1]
         assert status == 0, (words, status, err)
         return out
 

@@ -10,7 +10,6 @@ import time
 
 import pytest
 
-from scripts.clients.event_files import due
 from scripts.clients.random_evenings import COMPLETE, ENDED, HOSTILE, IN_PLAYOFF, OPEN, STARTED, WAYS, evening, laid
 from scripts.clients.sheets import BARE
 from scripts.clients.waiting import PATIENCE, comes
@@ -213,16 +212,6 @@ def watching(sheets):
         process.communicate()
 
 
-def beside(program, *words):
-    """The status of a command line while a board is kept. The board may have the file just then, so it is sent again."""
-    until = time.monotonic() + PATIENCE
-    got = program.run(*words)
-    while got == due(["refused 25 Store"]) and time.monotonic() < until:
-        time.sleep(0.05)
-        got = program.run(*words)
-    return got[0]
-
-
 @pytest.mark.needs("sheets and boards", module="jinja2", package="python3-jinja2")
 def test_watch(watching, program, room, dice):
     """A page that is kept up to date: never half of it is there, and a command shows in it."""
@@ -244,7 +233,7 @@ def test_watch(watching, program, room, dice):
 
     assert comes(lambda: shows("")), "watch, the page comes"
     for table, score in ((1, (2, 1, 0)), (2, (0, 2, 1))):
-        assert beside(program, "result", file, "1", str(table), *map(str, score)) == 0, f"watch, a result at table {table}"
+        program.did("result", file, "1", str(table), *map(str, score))
         event.report(1, table, score, True)
         assert comes(lambda: shows("-".join(map(str, score)))), f"watch, it shows at table {table}"
     check_page(Page(open(page, encoding="utf-8").read()), event, 1, "E", is_board=True)
@@ -252,7 +241,7 @@ def test_watch(watching, program, room, dice):
     os.rename(file, f"{file}.gone")
     time.sleep(1.5)
     os.rename(f"{file}.gone", file)
-    beside(program, "result", file, "1", "3", "2", "0", "0")
+    program.did("result", file, "1", "3", "2", "0", "0")
     assert comes(lambda: shows("2-0-0")), "watch, it goes on where the file was away"
     process.send_signal(signal.SIGINT)
     out, errors = process.communicate(timeout=PATIENCE)
@@ -270,7 +259,7 @@ def test_watch_without_room(watching, program, room, dice):
     process = watching(file, "--board", "--watch", page)
     assert comes(lambda: os.path.exists(page)), "no room, the page comes"
     os.rename(f"{room}/screen", f"{room}/away")
-    beside(program, "result", file, "1", "1", "2", "1", "0")
+    program.did("result", file, "1", "1", "2", "1", "0")
     assert comes(lambda: select.select([process.stderr], [], [], 0)[0]), "no room, it is said"
     os.rename(f"{room}/away", f"{room}/screen")
     assert comes(lambda: 'class="score">2-1-0<' in open(page, encoding="utf-8").read()), "no room, it goes on"
