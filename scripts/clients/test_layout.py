@@ -301,10 +301,11 @@ def test_screen(sheets, program, room, dice, browser, players, way, cut, screen)
     _, text, _ = sheets.printed(file, "--board", "--title", "Friday Night")
     found = laid_out(browser, room, text, screen)
     assert list(found) == ["all", *parts_due(event, len(event.stored), is_board=True)], "parts"
+    # names of up to 37 letters; a large event has at least 45 of them in a look
+    most = 1 if players <= 37 else 2 if players <= 64 else players / 45
     for part, layout in list(found.items())[1:]:
         check_layout(part, layout, screen)
-        # names of up to 37 letters
-        assert layout["looks"] < (1.01 if players <= 37 else 2.01 if players <= 64 else 10.01), f"{part}, in few looks"
+        assert layout["looks"] < most + 0.01, f"{part}, in few looks"
 
 
 @pytest.mark.needs("the board on a screen", command=BROWSERS)
