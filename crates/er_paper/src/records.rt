@@ -2,11 +2,11 @@ ghost use Rattle.std.specs.Prelude.{◌≡◌, ◌∷◌, [], ℕ, List, IfOk, M
 ghost use Rattle.csv.specs.Records.{fields_of};
 ghost use Rattle.er_paper.specs.Csv.{HasRecords};
 
-use csv::{ByteRecord, ReaderBuilder};
-use std::alloc::Global;
+use csv::{ByteRecord, ErrorKind, ReaderBuilder};
+use std::alloc::{AllocError, Global};
 
-/// The records of a text, whatever their lengths. A slice's read does not fail, so an error is want of memory.
-pub fn records(alloc: Global, bytes: &[u8]) -> Result<Vec<ByteRecord>, csv::Error>
+/// The records of a text, whatever their lengths. A slice's read does not fail.
+pub fn records(alloc: Global, bytes: &[u8]) -> Result<Vec<ByteRecord>, AllocError>
     ensures { IfOk result (λ rows. HasRecords bytes.now (map fields_of rows.items)) }
 {
     let rdr = ReaderBuilder::new()
@@ -15,8 +15,16 @@ pub fn records(alloc: Global, bytes: &[u8]) -> Result<Vec<ByteRecord>, csv::Erro
         .from_reader(alloc, bytes);
     let mut rows = Vec::new(alloc);
     for row in rdr.into_byte_records() {
-        if rows.push(row?).is_err() {
-            return Err(csv::Error::out_of_memory());
+        let row = match row {
+            Ok(row) => row,
+            Err(error) => match error.kind() {
+                // a reader that takes rows of any length refuses none for its own
+                ErrorKind::UnequalLengths { .. } => unreachable!(),
+                _ => return Err(AllocError),
+            },
+        };
+        if rows.push(row).is_err() {
+            return Err(AllocError);
         }
     }
     Ok(rows)

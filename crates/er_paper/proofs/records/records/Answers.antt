@@ -19,6 +19,7 @@ loop-row-init c =
       inr (inr (rw e at fr.has_headers, fr.headers)),
       left,
       rw e at fr.config ∙ c.new.ensures.config,
+      rw e at fr.flexible,
       strip_bom c.args.bytes.now,
       fr.source,
       (sym fr.state, refl),
@@ -27,19 +28,22 @@ loop-row-init c =
 pub loop-row-preserved : goal.loop-row-preserved
 loop-row-preserved c =
     let inv = c.loop-row.invariant in
-    let s = rw (c.in-Some.is, c.in_ok-row.was) at ((c.next.ensures.steps inv.2 inv.0).0 inv.1) in
+    let step = c.next.ensures.steps inv.2 inv.0 in
+    let s = rw (c.in-Some.is, c.in-Ok.is) at (step.0 inv.1) in
+    let as_flexible = rw (c.in-Some.is, c.in-Ok.is) at step.3 in
     let good : is_ok c.push.result ≡ true = search rules in
     let items = rw good at c.push.ensures.items in
     let m = rows-more (λ (s : Bor (List ℕ)). Some s.now) c.loop-row.row-iterator.rdr c.next.new.self.rdr
-    (fields_of c.in_ok-row.field-0) default_config st.StartRecord (strip_bom c.args.bytes.now) inv.4
-    (map fields_of c.loop-row.rows.items) inv.3 inv.5 inv.6 s.0 in (
+    (fields_of c.in-Ok.row) default_config st.StartRecord (strip_bom c.args.bytes.now) inv.5
+    (map fields_of c.loop-row.rows.items) inv.3 inv.6 inv.7 s.0 in (
       s.0.3 ∙ inv.0,
       inl s.1,
       s.2,
       s.0.2 ∙ inv.3,
+      as_flexible ∙ inv.4,
       m.0,
       m.1,
-      rw (items, map-append fields_of c.loop-row.rows.items (c.in_ok-row.field-0 ∷ [])) m.2,
+      rw (items, map-append fields_of c.loop-row.rows.items (c.in-Ok.row ∷ [])) m.2,
     )
 
 pub returns : goal.returns
