@@ -4,7 +4,7 @@ ghost use Rattle.std.specs.Prelude.{ℕ, ◌≡◌, false, IsTrue};
 ghost use Rattle.sqlite.specs.Effect.{Database, IsDatabase};
 ghost use Rattle.sqlite.specs.Held.{state};
 ghost use Rattle.er_event.specs.Event.{EventValue};
-ghost use Rattle.er_store.specs.Representing.{RepresentsIn, IsStoredIn, RepresentsNow, AfterCrash};
+ghost use Rattle.er_store.specs.Representing.{CanRead, RepresentsIn, IsStoredIn, RepresentsNow, AfterCrash};
 ghost use Rattle.er_store.specs.Store as tables;
 
 use crate::Store;
@@ -21,6 +21,11 @@ pub fn shown_is_stored<S: Alter>(store: &Store<S>)
 pub fn stored_represents()
     ensures { (v : ℕ) (db : Database) (e : EventValue) (s : ℕ) → IsDatabase db
         → IsStoredIn v e s db.trees → RepresentsIn v db e s }
+{}
+
+/// Where the tables represent an event, something called `event` can be read.
+pub fn represented_is_read()
+    ensures { (v : ℕ) (db : Database) (e : EventValue) (s : ℕ) → RepresentsIn v db e s → CanRead db.schema }
 {}
 
 /// Outside a transaction an open connection sees the last commit, and that obeys its schema. Two calls of the connection say so.
