@@ -1,6 +1,6 @@
 -- What an opening makes of the tables that it finds.
 use Rattle.std.proofs.lemmas.Grind.{common_steps}
-use Rattle.std.proofs.Common.{arith, Option, Some, None, IfSome, ◌⊎◌, ◌≡◌, ℕ, List, [], ◌∷◌, is_ok, IsTrue, refl, sym, ap}
+use Rattle.std.proofs.Common.{arith, ◌≡◌, ℕ, List, [], ◌∷◌, is_ok, IsTrue, refl, sym, ap}
 use Rattle.std.proofs.Common.{subst, ◌∙◌}
 use Rattle.std.specs.List.{AllZip}
 use Rattle.sqlite_catalog.specs.Listing.{IsTableRow, IsIndexRow, IsViewRow}
@@ -12,13 +12,7 @@ use Rattle.sqlite_trees.specs.Objects.{catalog_tree}
 use Rattle.er_store.specs.Tables.{no_schema}
 use Rattle.std.proofs.Math.Logic.{∥∥₁_elim}
 use Rattle.sqlite_trees.specs.declared.store.Store.{Ghosts}
-use Rattle.sqlite_disk.specs.declared.Disk as disk
-use Rattle.sqlite_disk.specs.declared.calls.Calls as calls
-use Rattle.sqlite_disk.specs.declared.modelled.Modelled.{Modelled}
-use Rattle.sqlite_disk.specs.declared.start.Start as start
-use Rattle.sqlite_std_file.specs.declared.host.Host.{Host}
-use Rattle.sqlite.specs.declared.{error.Error.Error, error.Error.TheVariants.SqliteFailure, file.Leftover.Leftover}
-use Rattle.sqlite.specs.declared.error.ErrorCode.TheVariants.{CannotOpen, DatabaseBusy, OutOfMemory}
+use Rattle.sqlite.specs.declared.error.Error.{Error}
 use Rattle.er_store.specs.Fault.{IsFault, store_refusal}
 use Rattle.sqlite_trees.specs.Props.{Trees-set}
 use Rattle.sqlite.specs.{Tree.Trees, Effect.{Database, IsDatabase}, State.{State, Opens, IsLive, HasCleanDisk, IsUnchanged}, Start.FindsIn}
@@ -30,7 +24,7 @@ use Rattle.er_store.specs.{Damage.ReadsParts, Reading.KeepsTables}
 use Rattle.er_store.specs.{Representing.{RepresentsIn, IsStoredIn, RepresentsNow, AfterCrash, ReadsEvent}}
 use Rattle.er_store.specs.declared.Store.{Store}
 use Rattle.er_desk.specs.{Desk.{Placed, IsStoredAt}, Headline.{IsEmptyFile, Recovers}}
-use Rattle.er_desk.specs.{Opening.{HoldsNothing, IsSpared, ChangesNothing, NamesFirstFault}}
+use Rattle.er_desk.specs.Opening.{HoldsNothing, ChangesNothing, NamesFirstFault}
 use Rattle.er_desk.proofs.Turns.{unchanged_keeps}
 use Rattle.er_store.specs.Store as tables
 
@@ -136,10 +130,3 @@ module _ (s : State) (image : Image) (opened : Opens s × IsLive s) (found : Fin
 
 pub is_fault : (error : Error) → IsFault (store_refusal error)
 is_fault error = grind (arith, common_steps)
-
-module _ {S : Type 0} {g : calls.Ghosts Host} {first : start.Ghosts S} {d : disk.Ghosts (Modelled Host S g first)} where
-  pub is_spared : (error : Error) (left : Option (Leftover (Modelled Host S g first) d))
-      → (left ≡ None → (error ≡ SqliteFailure CannotOpen) ⊎ ((error ≡ SqliteFailure OutOfMemory) ⊎ (error ≡ SqliteFailure DatabaseBusy)))
-      → IfSome left (λ it. IsSpared error (Some it)) → IsSpared error left
-  is_spared error None none some = none refl
-  is_spared error (Some left) none some = some

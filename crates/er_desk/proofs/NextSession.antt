@@ -42,8 +42,7 @@ module _ (law : Histories) (new first : Point) (ends : List Ended) (begins : IsB
   pub next_begins : (version : ℕ) (session : Session) (trees : Trees) → IsStoredEnd (placed_at first version) session trees
       → NextBegins new ends session version trees
   next_begins version session trees (last, may, stored) =
-      let history = history_more new first ends (record { session = session; last = last }) was may in
-      record { last = last; history = history; is_end = ends_so (and_then ends session last) last history; stored = stored }
+      record { last = last; history = history_more new first ends (record { session = session; last = last }) was may; stored = stored }
 
   -- files that represent the sure end of the session were left by the history with it
   pub next_leaves : (session : Session) (last : Placed) (left : Image) → LeadsTo first session.acknowledged last.point

@@ -1,26 +1,25 @@
 -- What becomes of files that the storage crate opened, or did not.
-use Rattle.std.proofs.Common.{inl, inr, sym, subst, ap, ◌∙◌, ◌≡◌, ◌⊎◌, ℕ, List, Option, Some, None, Result, Ok, Err, IfOk, IfErr, IfSome}
+use Rattle.std.proofs.Common.{inl, inr, sym, subst, ap, ◌∙◌, ◌≡◌, ◌⊎◌, ℕ, List, Option, Some, None, Result, Ok, Err, IfErr, IfSome, refl}
 use Rattle.sqlite_disk.specs.declared.Disk.{Ghosts}
-use Rattle.sqlite_disk.specs.declared.calls.Calls as calls
-use Rattle.sqlite_disk.specs.declared.modelled.Modelled.{Modelled}
-use Rattle.sqlite_disk.specs.declared.start.Start as start
-use Rattle.sqlite_std_file.specs.declared.host.Host.{Host}
+use Rattle.sqlite_disk.specs.declared.Files.{Files}
 use Rattle.sqlite_store.specs.declared.store.FileStore.{FileStore}
 use Rattle.sqlite_trees.specs.Objects.{catalog_tree}
 use Rattle.sqlite_wal.specs.Recovery.{Image}
 use Rattle.sqlite.specs.{Effect.{Database, IsDatabase}, Tree.Trees, State.{Opens, IsLive, HasCleanDisk}, Start.FindsIn, Held.Held}
-use Rattle.sqlite.specs.Files.{AreFoundIn, over_files, file_state}
+use Rattle.sqlite.specs.Files.{AreFoundIn, FailsToOpenFiles, IsCleanLeft, LeavesFiles, file_state, image_of, over_files}
 use Rattle.sqlite.specs.declared.{error.Error.Error, error.Error.TheVariants.SqliteFailure, file.Leftover.Leftover}
 use Rattle.sqlite.specs.declared.error.ErrorCode.TheVariants.{CannotOpen, DatabaseBusy, OutOfMemory}
 use Rattle.er_event.specs.{Event.EventValue, Sound.AreLimits, declared.refusals.Refusal.Refusal}
-use Rattle.er_store.specs.Representing.{HasTables, AreKeyed, RepresentsIn, IsStoredIn}
+use Rattle.er_store.specs.Representing.{CanRead, HasTables, AreKeyed, RepresentsIn, IsStoredIn}
+use Rattle.std.proofs.Math.Logic.{∥∥₁_elim}
+use Rattle.sqlite_trees.specs.Props.{Trees-set}
 use Rattle.er_desk.specs.declared.desk.Desk.{Desk}
 use Rattle.er_desk.specs.declared.opening.OpenFault.{OpenFault}
 use Rattle.er_desk.specs.declared.opening.OpenFault.TheVariants.{Unopened, Refused}
 use Rattle.er_desk.specs.Begins.{HasAdopted, HasNotAdopted, HasCreated, HasNotCreated}
-use Rattle.er_desk.specs.{Desk.{state, version_in}, Files.{HasOpened, HasNotOpened, OpensFile, HasMade, HasNotMade, MakesFile}}
-use Rattle.er_desk.specs.{Opening.{IsSpared, OnUnopened}, inside.Opened.FromOpened}
-use Rattle.er_desk.proofs.Adopting.{is_fault, is_spared, opened_represents, opened_empty, sees_unchanged, sees_kept}
+use Rattle.er_desk.specs.{Desk.{Placed, IsStoredAt, state, version_in}, Headline.Recovers, Files.{HasOpened, HasNotOpened, OpensFile, HasMade, HasNotMade, MakesFile}}
+use Rattle.er_desk.specs.Opening.{FromOpened, OpensImage, SparesAt}
+use Rattle.er_desk.proofs.Adopting.{is_fault, opened_represents, opened_empty, sees_unchanged, sees_kept}
 
 module _ {D : Type 0} {g : Ghosts D} (image : Image) where
   -- what the storage crate says of a connection to files that it opened
@@ -54,6 +53,7 @@ module _ {D : Type 0} {g : Ghosts D} (image : Image) where
       refused back why it = record {
         why = it.why;
         unopened = tt;
+        spared = tt;
         first = λ clean.
             let early = it.left.clean clean in
             let live = opened early in (
@@ -75,7 +75,14 @@ module _ {D : Type 0} {g : Ghosts D} (image : Image) where
             it.left.left (opened early).0.is_open clean trees may ∙ (found early).holds db holds;
       }
 
-    module _ (name : List ℕ) (rounds cut : ℕ) where
+    module _ (law : (v : ℕ) (db : Database) (e : EventValue) (n : ℕ) → IsDatabase db → IsStoredIn v e n db.trees → RepresentsIn v db e n)
+        (reads : (v : ℕ) (db : Database) (e : EventValue) (n : ℕ) → RepresentsIn v db e n → CanRead db.schema)
+        (name : List ℕ) (rounds cut : ℕ) where
+      -- what a crash left of an event can be read
+      has_event : HasCleanDisk (file_state conn) → (placed : Placed) → Recovers image placed → CanRead (file_state conn).now.schema
+      has_event early placed was = reads placed.version (file_state conn).now placed.point.event placed.point.serial
+          (opened_represents (file_state conn) image (opened early) (found early) placed law was)
+
       created : (desk : Desk (FileStore D g) over_files) → HasCreated over_files name rounds cut (file_state conn) desk
           → HasMade image name rounds cut desk
       created desk it = record {
@@ -98,6 +105,7 @@ module _ {D : Type 0} {g : Ghosts D} (image : Image) where
               sound = (live.1 live.0.is_open).0;
               shows = it.beside clean;
             };
+        absent = λ placed was clean. it.absent clean (has_event (it.clean clean) placed was);
       }
 
       not_created : AreLimits rounds cut → (back : Held (FileStore D g)) (why : Refusal)
@@ -109,6 +117,26 @@ module _ {D : Type 0} {g : Ghosts D} (image : Image) where
           | inr why ↦ why
         ];
         unopened = tt;
+        spared = tt;
+        exists = λ is clean.
+            let early = it.clean clean in
+            let live = opened early in
+            let readable = (it.exists is clean).0 in (
+              (file_state conn).now,
+              record {
+                sound = (live.1 live.0.is_open).0;
+                found = subst (λ (db : Database). AreFoundIn image db.trees) (sym live.0.clean) (found early).reads;
+                readable = readable;
+              },
+              λ late trees may.
+                  it.left.still readable live.0.is_open late trees may ∙ ap (λ (db : Database). db.trees) (sym live.0.clean),
+            );
+        spares = λ placed was clean trees may.
+            let early = it.clean clean in
+            let live = opened early in
+            let same : trees ≡ was.0 = it.left.still (has_event early placed was) live.0.is_open clean trees may
+            ∙ ∥∥₁_elim was.1 (Trees-set _ _) (λ holds. (found early).holds was.0 holds) in
+            subst (IsStoredAt placed) (sym same) was.2;
         crash = λ nothing clean trees may.
             let early = it.clean clean in
             let live = opened early in
@@ -132,64 +160,69 @@ module _ {D : Type 0} {g : Ghosts D} (image : Image) where
             };
       }
 
-  unopened : (error : Error) (left : Option (Leftover D g)) → HasNotOpened image (Unopened error left)
-  unopened error left = record {
+  unopened : (error : Error) (left : Option (Leftover D g)) → SparesAt image error left → HasNotOpened image (Unopened error left)
+  unopened error left spared = record {
     why = inr (inl (is_fault error));
     unopened = is_fault error;
+    spared = spared;
     first = tt;
     found = λ point was sound clean. is_fault error;
     kept = λ db holds. tt;
     left = λ db holds. tt;
   }
 
-  unmade : (name : List ℕ) (rounds cut : ℕ) (error : Error) (left : Option (Leftover D g))
+  unmade : (name : List ℕ) (rounds cut : ℕ) (error : Error) (left : Option (Leftover D g)) → SparesAt image error left
       → HasNotMade image name rounds cut (Unopened error left)
-  unmade name rounds cut error left = record {
+  unmade name rounds cut error left spared = record {
     why = inr (is_fault error);
     unopened = is_fault error;
+    spared = spared;
+    exists = λ is. tt;
+    spares = λ placed was. tt;
     crash = λ nothing. tt;
     beside_crash = λ db holds. tt;
   }
 
-  pub opens : (given : Result (Held (FileStore D g)) (Error × Option (Leftover D g)))
-      (result : Result (Desk (FileStore D g) over_files) (OpenFault D g))
-      → ((v : ℕ) (db : Database) (e : EventValue) (n : ℕ) → IsDatabase db → IsStoredIn v e n db.trees → RepresentsIn v db e n)
-      → IfOk given (λ conn. HasCleanDisk (file_state conn) → Opens (file_state conn) × IsLive (file_state conn))
-      → IfOk given (λ conn. HasCleanDisk (file_state conn) → FindsIn image (file_state conn))
+  pub opens : ((v : ℕ) (db : Database) (e : EventValue) (n : ℕ) → IsDatabase db → IsStoredIn v e n db.trees → RepresentsIn v db e n)
+      → (given : Result (Held (FileStore D g)) (Error × Option (Leftover D g)))
+      (result : Result (Desk (FileStore D g) over_files) (OpenFault D g)) → OpensImage image given
       → FromOpened (λ conn. HasAdopted over_files (file_state conn)) (λ conn. HasNotAdopted over_files (file_state conn)) given result
       → OpensFile image result
-  opens (Err (error, left)) result law opened found is = subst (OpensFile image) (sym is) (unopened error left)
-  opens (Ok conn) (Ok desk) law opened found it = adopted conn opened found law desk it
-  opens (Ok conn) (Err (Refused back why)) law opened found it = refused conn opened found law back why it
-  opens (Ok conn) (Err (Unopened error left)) law opened found it = absurd it
+  opens law (Err (error, left)) result it is = subst (OpensFile image) (sym is) (unopened error left it.spared)
+  opens law (Ok conn) (Ok desk) it has = adopted conn it.live it.found law desk has
+  opens law (Ok conn) (Err (Refused back why)) it has = refused conn it.live it.found law back why has
+  opens law (Ok conn) (Err (Unopened error left)) it has = absurd has
 
   pub makes : (name : List ℕ) (rounds cut : ℕ) → AreLimits rounds cut
+      → ((v : ℕ) (db : Database) (e : EventValue) (n : ℕ) → IsDatabase db → IsStoredIn v e n db.trees → RepresentsIn v db e n)
+      → ((v : ℕ) (db : Database) (e : EventValue) (n : ℕ) → RepresentsIn v db e n → CanRead db.schema)
       → (given : Result (Held (FileStore D g)) (Error × Option (Leftover D g)))
-      (result : Result (Desk (FileStore D g) over_files) (OpenFault D g))
-      → IfOk given (λ conn. HasCleanDisk (file_state conn) → Opens (file_state conn) × IsLive (file_state conn))
-      → IfOk given (λ conn. HasCleanDisk (file_state conn) → FindsIn image (file_state conn))
+      (result : Result (Desk (FileStore D g) over_files) (OpenFault D g)) → OpensImage image given
       → FromOpened (λ conn. HasCreated over_files name rounds cut (file_state conn)) (HasNotCreated over_files name rounds cut) given result
       → MakesFile image name rounds cut result
-  makes name rounds cut limits (Err (error, left)) result opened found is =
-      subst (MakesFile image name rounds cut) (sym is) (unmade name rounds cut error left)
-  makes name rounds cut limits (Ok conn) (Ok desk) opened found it = created conn opened found name rounds cut desk it
-  makes name rounds cut limits (Ok conn) (Err (Refused back why)) opened found it =
-      not_created conn opened found name rounds cut limits back why it
-  makes name rounds cut limits (Ok conn) (Err (Unopened error left)) opened found it = absurd it
+  makes name rounds cut limits law reads (Err (error, left)) result it is =
+      subst (MakesFile image name rounds cut) (sym is) (unmade name rounds cut error left it.spared)
+  makes name rounds cut limits law reads (Ok conn) (Ok desk) it has = created conn it.live it.found law reads name rounds cut desk has
+  makes name rounds cut limits law reads (Ok conn) (Err (Refused back why)) it has =
+      not_created conn it.live it.found law reads name rounds cut limits back why has
+  makes name rounds cut limits law reads (Ok conn) (Err (Unopened error left)) it has = absurd has
 
--- Of files that were not opened, what the storage crate says goes on.
-module _ {S : Type 0} {g : calls.Ghosts Host} {first : start.Ghosts S} {d : Ghosts (Modelled Host S g first)} where
-  pub spares : (Has : Held (FileStore (Modelled Host S g first) d) → Desk (FileStore (Modelled Host S g first) d) over_files → Type 0)
-      (HasNot : Held (FileStore (Modelled Host S g first) d) → Held (FileStore (Modelled Host S g first) d) × Refusal → Type 0)
-      (given : Result (Held (FileStore (Modelled Host S g first) d)) (Error × Option (Leftover (Modelled Host S g first) d)))
-      (result : Result (Desk (FileStore (Modelled Host S g first) d) over_files) (OpenFault (Modelled Host S g first) d))
+-- What the storage crate says of files at a path, whatever these held. Neither has had a call since it was opened.
+module _ {D : Type 0} {g : Ghosts D} (image : Image) (IsFreshLog IsFreshDb : D → Type 0)
+    (same : (files : Files D) → IsFreshLog files.log → IsFreshDb files.db → image_of g files ≡ image) where
+  spared_at : (error : Error) (left : Option (Leftover D g))
+      → (left ≡ None → (error ≡ SqliteFailure CannotOpen) ⊎ ((error ≡ SqliteFailure OutOfMemory) ⊎ (error ≡ SqliteFailure DatabaseBusy)))
+      → IfSome left (λ it. (files : Files D) × IsFreshLog files.log × IsFreshDb files.db
+      × (IsCleanLeft it → FailsToOpenFiles files it error × LeavesFiles files it))
+      → SparesAt image error left
+  spared_at error None none some = none refl
+  spared_at error (Some left) none some = (some.0, same some.0 some.1 some.2, some.3)
+
+  pub spares_at : (given : Result (Held (FileStore D g)) (Error × Option (Leftover D g)))
       → IfErr given (λ e. e.1 ≡ None
       → (e.0 ≡ SqliteFailure CannotOpen) ⊎ ((e.0 ≡ SqliteFailure OutOfMemory) ⊎ (e.0 ≡ SqliteFailure DatabaseBusy)))
-      → IfErr given (λ e. IfSome e.1 (λ left. IsSpared e.0 (Some left)))
-      → FromOpened Has HasNot given result → IfErr result (λ why. OnUnopened why IsSpared)
-  spares Has HasNot (Err (error, left)) result none some is =
-      subst (λ (r : Result (Desk (FileStore (Modelled Host S g first) d) over_files) (OpenFault (Modelled Host S g first) d)).
-      IfErr r (λ why. OnUnopened why IsSpared)) (sym is) (is_spared error left none some)
-  spares Has HasNot (Ok conn) (Ok desk) none some it = tt
-  spares Has HasNot (Ok conn) (Err (Refused back why)) none some it = tt
-  spares Has HasNot (Ok conn) (Err (Unopened error left)) none some it = absurd it
+      → IfErr given (λ e. IfSome e.1 (λ it. (files : Files D) × IsFreshLog files.log × IsFreshDb files.db
+      × (IsCleanLeft it → FailsToOpenFiles files it e.0 × LeavesFiles files it)))
+      → IfErr given (λ e. SparesAt image e.0 e.1)
+  spares_at (Ok conn) none some = tt
+  spares_at (Err (error, left)) none some = spared_at error left none some

@@ -2,6 +2,7 @@
 use Rattle.std.specs.Prelude.{◌≡◌, ◌⊎◌, ◌≤◌, ℕ, List, Result, MatchResult, IsFalse}
 use Rattle.sqlite.specs.Files.{HoldsDatabase, over_files, file_state}
 use Rattle.sqlite.specs.State.{HasCleanDisk}
+use Rattle.sqlite.specs.Effect.{Database}
 use Rattle.sqlite.specs.Tree.{Trees}
 use Rattle.sqlite_disk.specs.declared.Disk.{Ghosts}
 use Rattle.sqlite_store.specs.declared.store.FileStore.{FileStore}
@@ -15,11 +16,11 @@ use Rattle.er_store.specs.Fault.{IsFault, IsLoadFault}
 use Rattle.er_store.specs.Representing.{HasTables, AreKeyed, Either, IsStoredIn, AfterCrash}
 use Rattle.er_desk.specs.declared.desk.Desk.{Desk}
 use Rattle.er_desk.specs.declared.opening.OpenFault.{OpenFault}
-use Rattle.er_desk.specs.Desk.{Placed, HoldsOwnEvent, placed_at, running_at, state, desk_state, version_in}
+use Rattle.er_desk.specs.Desk.{Placed, HoldsOwnEvent, IsStoredAt, placed_at, running_at, state, desk_state, version_in}
 use Rattle.er_desk.specs.Headline.{Recovers, FindsAgain, RecoversJust, RepeatsNobody}
 use Rattle.er_desk.specs.History.{new_point}
-use Rattle.er_desk.specs.Opening.{HoldsNothing, ListsNothing, MakesOver, RecoversBeside, HoldsStill, NamesFirstFaultIn, why_of}
-use Rattle.er_desk.specs.Opening.{OnRefused, WhereUnopened, IsCleanFault}
+use Rattle.er_desk.specs.Opening.{HasAnEvent, HoldsNothing, ListsNothing, MakesOver, RecoversBeside, HoldsStill, NamesFirstFaultIn, why_of}
+use Rattle.er_desk.specs.Opening.{OnRefused, OnUnopened, SparesAt, WhereUnopened, IsCleanFault}
 
 module _ {D : Type 0} {g : Ghosts D} (image : Image) where
   -- The event in the file was found, and the desk is not stopped. Whatever the file holds, it is sound.
@@ -41,6 +42,8 @@ module _ {D : Type 0} {g : Ghosts D} (image : Image) where
   pub record HasNotOpened (fault : OpenFault D g) : Type 0 where
     pub why : (why_of fault ≡ NoEvent) ⊎ IsLoadFault (why_of fault)
     pub unopened : WhereUnopened fault (IsFault (why_of fault))
+    -- of files that were not opened, what is left represents what they held, and says why
+    pub spared : OnUnopened fault (SparesAt image)
     pub first : OnRefused fault (λ conn. HasCleanDisk (file_state conn) → NamesFirstFaultIn image (file_state conn) (why_of fault))
     -- of what a crash left of a sound event, memory or the device fails
     pub found : (placed : Placed) → Recovers image placed → IsSound placed.point.event → IsCleanFault fault → IsFault (why_of fault)
@@ -61,11 +64,20 @@ module _ {D : Type 0} {g : Ghosts D} (image : Image) where
       -- whatever database the file held stands as it was, and the event's tables are there beside it
       pub beside : (db : Trees) → HoldsDatabase image db → HasCleanDisk (state over_files desk)
           → MakesOver (new_point name rounds cut) db (state over_files desk)
+      -- where a crash left an event, none is made
+      pub absent : (placed : Placed) → Recovers image placed → HasCleanDisk (state over_files desk) → ⊥
 
     -- It was not: a crash leaves what was there, or that with the event whole.
     pub record HasNotMade (fault : OpenFault D g) : Type 0 where
       pub why : (why_of fault ≡ EventExists) ⊎ IsFault (why_of fault)
       pub unopened : WhereUnopened fault (IsFault (why_of fault))
+      -- of files that were not opened, what is left represents what they held, and says why
+      pub spared : OnUnopened fault (SparesAt image)
+      -- `EventExists` comes only where something called `event` can be read, and just that is left
+      pub exists : why_of fault ≡ EventExists → OnRefused fault (λ conn. HasCleanDisk (file_state conn)
+          → (db : Database) × HasAnEvent image db × AfterCrash (file_state conn) (λ trees. trees ≡ db.trees))
+      -- of what a crash left of an event just that is left, whatever the refusal
+      pub spares : (placed : Placed) → Recovers image placed → OnRefused fault (λ conn. AfterCrash (file_state conn) (IsStoredAt placed))
       pub crash : HoldsNothing image
           → OnRefused fault (λ conn. AfterCrash (file_state conn) (Either ListsNothing (IsStoredIn 2 (initial_event name rounds cut) 0)))
       pub beside_crash : (db : Trees) → HoldsDatabase image db → OnRefused fault (λ conn. HasCleanDisk (file_state conn)

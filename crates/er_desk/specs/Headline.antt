@@ -78,10 +78,10 @@ abbrev pub and_then : List Ended → Session → Point → List Ended
 and_then ends session last = ends ++ record { session = session; last = last } ∷ []
 
 -- What is left is an end of the history with this session after it, whole, in tables of this version, and the next session begins there.
+-- `Histories` says what the end of a history is.
 pub record NextBegins (new : Point) (ends : List Ended) (session : Session) (version : ℕ) (trees : Trees) : Type 0 where
   pub last : Point
   pub history : IsHistory new (and_then ends session last) last
-  pub is_end : IsEndOf new (and_then ends session last) last
   pub stored : IsStoredAt (placed_at last version) trees
 
 -- An event may be set up so, and is new.

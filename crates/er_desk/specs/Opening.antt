@@ -1,12 +1,7 @@
 -- Why a file was not opened.
-use Rattle.std.specs.Prelude.{◌≡◌, ◌⊎◌, ◌≤◌, ℕ, [], true, false, IsTrue, Option, Some, None, Result, Ok, Err}
+use Rattle.std.specs.Prelude.{◌≡◌, ◌⊎◌, ◌≤◌, ℕ, [], IsTrue, IfOk, IfErr, MatchResult, Option, Some, None, Result, Ok, Err}
 use Rattle.sqlite_disk.specs.declared.Disk.{Ghosts}
 use Rattle.sqlite_disk.specs.declared.Files.{Files}
-use Rattle.sqlite_disk.specs.declared.calls.Calls as calls
-use Rattle.sqlite_disk.specs.declared.modelled.Modelled.{Modelled}
-use Rattle.sqlite_disk.specs.declared.start.Start as start
-use Rattle.sqlite_std_file.specs.File.{IsFresh}
-use Rattle.sqlite_std_file.specs.declared.host.Host.{Host}
 use Rattle.sqlite_store.specs.declared.store.FileStore.{FileStore}
 use Rattle.sqlite_trees.specs.Objects.{catalog_tree}
 use Rattle.sqlite_trees.specs.declared.store.Store as store
@@ -14,13 +9,14 @@ use Rattle.sqlite_wal.specs.Recovery.{Image}
 use Rattle.sqlite.specs.Tree.{Trees}
 use Rattle.sqlite.specs.Effect.{Database, IsDatabase}
 use Rattle.sqlite.specs.State.{State, HasCleanDisk}
-use Rattle.sqlite.specs.Held.{Held}
+use Rattle.sqlite.specs.Held.{Held, IsNew}
 use Rattle.sqlite.specs.Held as sqlite
 use Rattle.sqlite.specs.declared.error.Error.{Error}
 use Rattle.sqlite.specs.declared.error.Error.TheVariants.{SqliteFailure}
 use Rattle.sqlite.specs.declared.error.ErrorCode.TheVariants.{CannotOpen, DatabaseBusy, OutOfMemory}
 use Rattle.sqlite.specs.declared.file.Leftover.{Leftover}
-use Rattle.sqlite.specs.Files.{AreFoundIn, FailsToOpenFiles, IsCleanLeft, LeavesFiles, file_state}
+use Rattle.sqlite.specs.Files.{AreFoundIn, FailsToOpenFiles, IsCleanLeft, IsOpened, LeavesFiles, file_state, image_of, over_files}
+use Rattle.sqlite.specs.Start.{FindsIn}
 use Rattle.er_event.specs.declared.refusals.Refusal.{Refusal}
 use Rattle.er_event.specs.declared.refusals.Refusal.TheVariants.{NoEvent}
 use Rattle.er_event.specs.declared.refusals.Place.{Place}
@@ -76,6 +72,7 @@ pub record ChangesNothing (old new : State) : Type 0 where
 pub record MakesNothing (new_event : Point) (old new : State) : Type 0 where
   pub kept : HasCleanDisk new → KeepsTables old new
   pub spares : CanRead old.now.schema → AfterCrash new old.may_leave
+  pub still : CanRead old.now.schema → IsTrue old.is_open → AfterCrash new (λ db. db ≡ old.committed.trees)
   pub crash : IsEmptyFile old → AfterCrash new (Either old.may_leave (IsStoredIn 2 new_event.event new_event.serial))
   pub left : IsEmptyFile old → IsTrue old.is_open
       → AfterCrash new (Either (λ db. db ≡ old.committed.trees) (IsStoredIn 2 new_event.event new_event.serial))
@@ -100,6 +97,12 @@ abbrev pub NamesFirstFaultIn : Image → State → Refusal → Type 0
 NamesFirstFaultIn image back why =
     (db : Database) × IsDatabase db × AreFoundIn image db.trees × NamesFirstFault db why × (IsTrue back.is_open → back.now ≡ db)
 
+-- An opening finds this in the file, and something called `event` can be read of it.
+pub record HasAnEvent (image : Image) (db : Database) : Type 0 where
+  pub sound : IsDatabase db
+  pub found : AreFoundIn image db.trees
+  pub readable : CanRead db.schema
+
 -- whatever an opening finds in the file, it lists no table
 abbrev pub HoldsNothing : Image → Type 0
 HoldsNothing image = (db : Trees) → AreFoundIn image db → db catalog_tree ≡ []
@@ -112,16 +115,22 @@ ListsNothing db = db catalog_tree ≡ []
 abbrev pub HoldsStill : State → Trees → Type 0
 HoldsStill s db = HasCleanDisk s → IsTrue s.is_open → (s.now.trees ≡ db) × (s.now ≡ s.committed)
 
--- What the storage crate says of files that it did not open. Nothing is left of them only where they can't be had, by the
--- system, for want of memory, or since another program holds them. What is left represents what the files held, and they are why.
-abbrev pub IsSpared : {S : Type 0} {g : calls.Ghosts Host} {first : start.Ghosts S} {d : Ghosts (Modelled Host S g first)}
-    → Error → Option (Leftover (Modelled Host S g first) d) → Type 0
-IsSpared error None = (error ≡ SqliteFailure CannotOpen) ⊎ (error ≡ SqliteFailure OutOfMemory) ⊎ (error ≡ SqliteFailure DatabaseBusy)
-IsSpared {S} {g} {first} error (Some left) =
-    (files : Files (Modelled Host S g first)) × IsFresh true files.log × IsFresh false files.db
-    × (IsCleanLeft left → FailsToOpenFiles files left error × LeavesFiles files left)
-
 module _ {D : Type 0} {g : Ghosts D} where
+  -- What the storage crate says of files that it did not open. Nothing is left of them only if they can't be had, by the system, for want
+  -- of memory, or since another program holds them. What is left represents what the files held, and they are why.
+  abbrev pub SparesAt : Image → Error → Option (Leftover D g) → Type 0
+  SparesAt image error None =
+      (error ≡ SqliteFailure CannotOpen) ⊎ (error ≡ SqliteFailure OutOfMemory) ⊎ (error ≡ SqliteFailure DatabaseBusy)
+  SparesAt image error (Some left) =
+      (files : Files D) × (image_of g files ≡ image) × (IsCleanLeft left → FailsToOpenFiles files left error × LeavesFiles files left)
+
+  -- What an opening gives of files that hold this: a new connection, which finds it; or why there is none, and what is left.
+  pub record OpensImage (image : Image) (opened : Result (Held (FileStore D g)) (Error × Option (Leftover D g))) : Type 0 where
+    pub new : IfOk opened IsNew
+    pub live : IfOk opened (λ conn. HasCleanDisk (file_state conn) → IsOpened conn)
+    pub found : IfOk opened (λ conn. HasCleanDisk (file_state conn) → FindsIn image (file_state conn))
+    pub spared : IfErr opened (λ why. SparesAt image why.0 why.1)
+
   abbrev pub why_of : OpenFault D g → Refusal
   why_of (Unopened error left) = store_refusal error
   why_of (Refused conn refusal) = refusal
@@ -143,3 +152,16 @@ module _ {D : Type 0} {g : Ghosts D} where
   abbrev pub OnUnopened : OpenFault D g → (Error → Option (Leftover D g) → Type 0) → Type 0
   OnUnopened (Unopened error left) P = P error left
   OnUnopened (Refused conn refusal) P = Unit {0}
+
+  -- the connection came back with this refusal, since its files were opened
+  abbrev pub ComesBack : OpenFault D g → (Held (FileStore D g) × Refusal → Type 0) → Type 0
+  ComesBack (Unopened error left) P = ⊥
+  ComesBack (Refused conn refusal) P = P (conn, refusal)
+
+  -- Files that were not opened are called so, with that error and with what is left of them; and no others are.
+  abbrev pub FromOpened : (Held (FileStore D g) → Desk (FileStore D g) over_files → Type 0)
+      → (Held (FileStore D g) → Held (FileStore D g) × Refusal → Type 0)
+      → Result (Held (FileStore D g)) (Error × Option (Leftover D g))
+      → Result (Desk (FileStore D g) over_files) (OpenFault D g) → Type 0
+  FromOpened Has HasNot (Err (error, left)) result = result ≡ Err (Unopened error left)
+  FromOpened Has HasNot (Ok conn) result = MatchResult result (Has conn) (λ fault. ComesBack fault (HasNot conn))

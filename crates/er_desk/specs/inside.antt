@@ -1,3 +1,2 @@
 -- What private functions alone cite.
-pub mod Opened
 pub mod Taking

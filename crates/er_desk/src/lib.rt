@@ -10,4 +10,6 @@ mod stored;
 
 pub use closing::{close_file, into_connection};
 pub use desk::{Desk, Reply};
-pub use opening::{OpenFault, adopt_file, create_in, open};
+pub use opening::{
+    OpenFault, Opened, adopt_file, adopt_opened, create_in_opened, open, open_files,
+};

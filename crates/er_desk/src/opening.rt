@@ -1,15 +1,15 @@
-ghost use Rattle.std.specs.Prelude.{◌≡◌, IfOk, IfErr, Some, false};
+ghost use Rattle.std.specs.Prelude.{◌≡◌, IfOk, Some, false};
 ghost use Rattle.sqlite.specs.Files.{over_files, file_state};
 ghost use Rattle.sqlite_wal.specs.Files.{image_at};
+ghost use Rattle.sqlite_wal.specs.Recovery.{Image};
 ghost use Rattle.er_event.specs.{Refusal.refusal_text, Sound.AreLimits};
 ghost use Rattle.er_desk.specs.Begins.{AdoptsDesk, HasAdopted, HasNotAdopted, HasCreated, HasNotCreated};
 ghost use Rattle.er_desk.specs.Files.{OpensFile, MakesFile};
-ghost use Rattle.er_desk.specs.Opening.{IsSpared, why_of, OnUnopened};
-ghost use Rattle.er_desk.specs.inside.Opened.{FromOpened};
+ghost use Rattle.er_desk.specs.Opening.{FromOpened, OpensImage, why_of};
 
 use crate::desk::Desk;
 use er_event::{Name, Refusal};
-use er_store::laws::stored_represents;
+use er_store::laws::{represented_is_read, stored_represents};
 use er_store::refusal_of;
 use sqlite::{Alter, Connection, Error, FileFrom, FileStore, Leftover, Start};
 use sqlite_disk::Disk;
@@ -62,7 +62,7 @@ impl<D: Disk + Drop> fmt::Display for OpenFault<D> {
 impl<D: Disk + Drop> error::Error for OpenFault<D> {}
 
 /// What the storage crate gives of the files at a path: a connection, or why it did not open them, with what is left.
-type Opened<D> = Result<Connection<FileStore<D>>, (Error, Option<Leftover<D>>)>;
+pub type Opened<D> = Result<Connection<FileStore<D>>, (Error, Option<Leftover<D>>)>;
 
 /// Takes over the event of a file, as `Desk::adopt` does. Others call this one, so that the proof of a generic call at the store in a file is
 /// paid once.
@@ -77,12 +77,12 @@ pub fn adopt_file<D: Disk + Drop>(
 }
 
 /// Takes over the event of files that were opened. Just those that were not are called unopened.
-fn adopt_opened<D: Disk + Drop>(
+fn take_over<D: Disk + Drop>(
     alloc: Global,
     opened: Opened<D>,
 ) -> Result<Desk<FileStore<D>>, OpenFault<D>>
     requires mode { IfOk opened (λ conn. conn.in_transaction ≡ false) }
-    ensures adopts { FromOpened (λ conn. HasAdopted over_files (file_state conn))
+    ensures { FromOpened (λ conn. HasAdopted over_files (file_state conn))
         (λ conn. HasNotAdopted over_files (file_state conn)) opened result }
 {
     let conn = match opened {
@@ -96,7 +96,7 @@ fn adopt_opened<D: Disk + Drop>(
 }
 
 /// Makes an event in files that were opened. Just those that were not are called unopened.
-fn create_in_opened<D: Disk + Drop>(
+fn create_over<D: Disk + Drop>(
     alloc: Global,
     opened: Opened<D>,
     name: Name,
@@ -104,7 +104,7 @@ fn create_in_opened<D: Disk + Drop>(
     cut: u8,
 ) -> Result<Desk<FileStore<D>>, OpenFault<D>>
     requires mode { IfOk opened (λ conn. conn.in_transaction ≡ false) }
-    ensures creates { FromOpened (λ conn. HasCreated over_files name rounds cut (file_state conn))
+    ensures { FromOpened (λ conn. HasCreated over_files name rounds cut (file_state conn))
         (HasNotCreated over_files name rounds cut) opened result }
 {
     let conn = match opened {
@@ -117,41 +117,56 @@ fn create_in_opened<D: Disk + Drop>(
     }
 }
 
-/// Opens the file of an event. Where a crash may have left what the file holds, the event and the serial found are those that it
+/// Takes over the event of files that were opened. If a crash may have left what they held, the event and the serial found are those that it
 /// represents, and a crash then leaves them again.
+pub fn adopt_opened<D: Disk + Drop>(
+    alloc: Global,
+    opened: Opened<D>,
+) -> Result<Desk<FileStore<D>>, OpenFault<D>>
+    requires mode { IfOk opened (λ conn. conn.in_transaction ≡ false) }
+    ensures adopts { FromOpened (λ conn. HasAdopted over_files (file_state conn))
+        (λ conn. HasNotAdopted over_files (file_state conn)) opened result }
+    ensures opens { (image : Image) → OpensImage image opened → OpensFile image result }
+{
+    // What a crash left represents the event again: this tells the proof.
+    stored_represents();
+    take_over(alloc, opened)
+}
+
+/// Makes an event in files that were opened. Whoever calls has checked the limits.
+pub fn create_in_opened<D: Disk + Drop>(
+    alloc: Global,
+    opened: Opened<D>,
+    name: Name,
+    rounds: u8,
+    cut: u8,
+) -> Result<Desk<FileStore<D>>, OpenFault<D>>
+    requires mode { IfOk opened (λ conn. conn.in_transaction ≡ false) }
+    requires limits { AreLimits rounds cut }
+    ensures creates { FromOpened (λ conn. HasCreated over_files name rounds cut (file_state conn))
+        (HasNotCreated over_files name rounds cut) opened result }
+    ensures makes { (image : Image) → OpensImage image opened → MakesFile image name rounds cut result }
+{
+    // What a crash left of an event represents it, and can be read: these tell the proof.
+    stored_represents();
+    represented_is_read();
+    create_over(alloc, opened, name, rounds, cut)
+}
+
+/// Opens the files at a path, or makes them. `start` stands for what they hold.
+pub fn open_files<S: Start>(rt: &HostRuntime, path: &str, start: S) -> Opened<FileFrom<S>>
+    ensures { OpensImage (image_at S.Start) result }
+{
+    Connection::open_from(rt, path, false, start)
+}
+
+/// Opens the file of an event, as `adopt_opened` does.
 pub fn open<S: Start>(
     rt: &HostRuntime,
     path: &str,
     start: S,
 ) -> Result<Desk<FileStore<FileFrom<S>>>, OpenFault<FileFrom<S>>>
-    ensures opens { OpensFile (image_at S.Start) result }
-    // Of files that were not opened, what is left represents what they held, and says why.
-    ensures spared { IfErr result (λ why. OnUnopened why IsSpared) }
+    ensures { OpensFile (image_at S.Start) result }
 {
-    // What a crash left represents the event again: this tells the proof.
-    stored_represents();
-    adopt_opened(rt.alloc(), Connection::open_from(rt, path, false, start))
-}
-
-/// Makes an event in a file, which is made where it isn't there. Whoever calls has checked the limits.
-pub fn create_in<S: Start>(
-    rt: &HostRuntime,
-    path: &str,
-    start: S,
-    name: Name,
-    rounds: u8,
-    cut: u8,
-) -> Result<Desk<FileStore<FileFrom<S>>>, OpenFault<FileFrom<S>>>
-    requires limits { AreLimits rounds cut }
-    ensures makes { MakesFile (image_at S.Start) name rounds cut result }
-    // Of files that were not opened, what is left represents what they held, and says why.
-    ensures spared { IfErr result (λ why. OnUnopened why IsSpared) }
-{
-    create_in_opened(
-        rt.alloc(),
-        Connection::open_from(rt, path, false, start),
-        name,
-        rounds,
-        cut,
-    )
+    adopt_opened(rt.alloc(), open_files(rt, path, start))
 }

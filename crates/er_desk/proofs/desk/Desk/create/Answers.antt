@@ -37,6 +37,7 @@ returns-in-Err g c = record {
   left = record {
     kept = λ clean. same_keeps (state g.S.Store c.args.conn);
     spares = λ reads clean trees may. may;
+    still = λ reads is_open clean trees may. g.met.S.Store.settled c.args.conn.store trees is_open may;
     crash = λ none clean trees may. inl may;
     left = λ none is_open clean trees may. inl (g.met.S.Store.settled c.args.conn.store trees is_open may);
     beside = λ is_open clean trees may. inl (g.met.S.Store.settled c.args.conn.store trees is_open may);
@@ -60,6 +61,7 @@ returns-in_err-store g c =
       left = record {
         kept = failed.kept;
         spares = failed.spares;
+        still = λ reads is_open clean trees may. g.met.S.Store.settled c.args.conn.store trees is_open (failed.spares reads clean trees may);
         crash = λ none clean trees may. elim (failed.crash none clean trees may) [
           | inl before ↦ inl before
           | inr made ↦ inr (stored trees made)
