@@ -27,7 +27,7 @@ use Rattle.er_slips.specs.{declared.serve.Served.Served, declared.serve.Served.T
 use Rattle.er_slips.specs.{Request.{IsRequest, headed, headless, IsWholeRequest, next_of, asked_with, report_request}}
 use Rattle.er_slips.specs.{inside.Telling.TellsRequest}
 use Rattle.er_slips.specs.declared.answer.Answer.{Answer}
-use Rattle.er_slips.specs.Answer.{AnswerValue, IsMessage, answer_value, fault_answer, refusal_answer, status_of}
+use Rattle.er_slips.specs.Answer.{AnswerValue, IsMessage, answer_value, fault_answer, refusal_answer}
 use Rattle.er_slips.specs.Whole.{IsAnswered, submitted_command, IsAnswerUnless503, question_of}
 use Rattle.er_slips.specs.Serving.{AnswersRequest, IsServed, IsUnserved, Writes, EndsServing, IsWritten}
 
@@ -83,10 +83,6 @@ module _ (Represented : Type 0) (input : Option (List ℕ)) (old : DeskState) (s
 pub keeps : (known : Option (List ℕ)) → Keeps known known
 keeps h1 = grind (arith, common_steps)
 
-pub written-unread : (Runs Represented : Type 0) (input before : Option (List ℕ))
-    → IfSome input (λ xs. Runs → Represented → Keeps before before)
-written-unread h1 h2 h3 before = grind (arith, common_steps)
-
 pub ends-unserved : (Represented : Type 0) (input : Option (List ℕ)) (old : DeskState) (before after : Option (List ℕ))
     (answer : AnswerValue)
     (served : Served) (why : NoRequest) → why ≡ no_request.Memory → IfSome input (λ xs. TellsRequest xs (Err why))
@@ -135,21 +131,17 @@ module _ (old : DeskState) (session : Session) (new : DeskState) (input : List �
   whole asked (headless so e) = absurd (true≢false (ap is_ok e))
 
   module _ (asked : Request) (of : IsRequest input (Ok asked)) where
-    hindered : (why : Refusal) → status_of why ≡ 503 → answer ≡ refusal_answer why → IsAnswerUnless503 old.event old.serial input answer
-    hindered why is same = (let request = whole asked of in inr (ap (λ (a : AnswerValue). a.status) same ∙ is, request.0, request.1))
-
     faulty : (why : Refusal) → IsFault why → answer ≡ refusal_answer why → IsAnswerUnless503 old.event old.serial input answer
-    faulty why (inl memory) e = hindered why (ap status_of memory) e
-    faulty why (inr refused) e = hindered why (ap status_of refused) e
+    faulty why fault same = (let request = whole asked of in inr (why, fault, same, request.0, request.1))
 
     -- what is due, or no memory for its message
     due_told : (told : Told) → IsDueAt 2 (point_of old) (question_of asked) told → IsMessage told answer
         → IsAnswerUnless503 old.event old.serial input answer
     due_told (Accepted receipt) due is = exact (Ok asked) of (Accepted receipt, due, is)
     due_told (Text text) due (inl is) = exact (Ok asked) of (Text text, due, is)
-    due_told (Text text) due (inr full) = hindered Memory refl full
+    due_told (Text text) due (inr full) = faulty Memory (inl refl) full
     due_told (SlipText slip) due (inl is) = exact (Ok asked) of (SlipText slip, due, is)
-    due_told (SlipText slip) due (inr full) = hindered Memory refl full
+    due_told (SlipText slip) due (inr full) = faulty Memory (inl refl) full
     due_told (Declined why) due is = exact (Ok asked) of (Declined why, due, is)
 
     fault_told : (told : Told) (why : Refusal) → IsFault why → told ≡ Declined why → IsMessage told answer
@@ -196,7 +188,7 @@ module _ (old : DeskState) (session : Session) (new : DeskState) (input : List �
       ⊎ IsUnserved (Some input) old answer session new
       → IsAnswerUnless503 old.event old.serial input answer
   due-by Represented represented (inl (asked, is, answers)) = answered-by Represented represented asked is answers
-  due-by Represented represented (inr unserved) = (let body = unserved.1 in inr (ap (λ (a : AnswerValue). a.status) unserved.0, _, body.3))
+  due-by Represented represented (inr unserved) = (let body = unserved.1 in inr (Memory, inl refl, unserved.0, _, body.3))
 
 pub written : (Represented : Type 0) (input : Option (List ℕ)) (old : DeskState) (session : Session) (new : DeskState)
     (before after : Option (List ℕ)) (served : Served)

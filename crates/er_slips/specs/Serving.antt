@@ -1,5 +1,5 @@
 -- What serving one request does: to the desk, and to what is written.
-use Rattle.std.specs.Prelude.{◌≡◌, ◌⊎◌, ◌≤◌, ℕ, List, length, take, Option, Result, Ok, Err, IfSome}
+use Rattle.std.specs.Prelude.{◌≡◌, ◌⊎◌, ◌≤◌, ℕ, List, length, take, Option, Some, Result, Ok, Err, IfSome, IsFalse}
 use Rattle.std.specs.Io.KnownBytes.{Appends, Keeps}
 use Rattle.sqlite_trees.specs.declared.store.Store.{Ghosts}
 use Rattle.sqlite.specs.State.{HasCleanDisk}
@@ -76,8 +76,7 @@ pub record Serves {S : Type 0} (g : Ghosts S) (input : Option (List ℕ)) (old n
       (desk_state new) before after served
   pub asks : desk.Asks g old session new
 
--- What was written where the desk runs and its tables represent its event: the answer to the input on that event and
--- serial, and nothing else but a 503.
+-- What was written of the answer to the input on the event and serial of a desk, or of a 503 that names why.
 abbrev pub IsWritten : DeskState → List ℕ → Option (List ℕ) → Option (List ℕ) → Served → Type 0
 IsWritten old input before after ReadFault = Keeps before after
 IsWritten old input before after (Answered status) =
@@ -86,3 +85,9 @@ IsWritten old input before after (Answered status) =
 IsWritten old input before after (WriteFault sent) =
     (answer : AnswerValue) × Writes before after (WriteFault sent) answer
     × IsAnswerUnless503 old.event old.serial input answer
+
+-- Serving wrote just that where the desk ran and its tables represented its event.
+abbrev pub WritesDue : {S : Type 0} → Ghosts S → Type 0
+WritesDue {S} g = (old new : Desk S g) (input : List ℕ) (before after : Option (List ℕ)) (served : Served)
+    → Serves g (Some input) old new before after served → IsFalse (desk_state old).needs_reopen
+    → HasCleanDisk (state g new) × HoldsOwnEvent g old → IsWritten (desk_state old) input before after served

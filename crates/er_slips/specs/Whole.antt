@@ -2,8 +2,10 @@
 use Rattle.std.specs.Prelude.{◌≡◌, ◌⊎◌, ℕ, List, Option, Some, None, Result, Ok, Err}
 use Rattle.er_event.specs.declared.commands.Command.{Command}
 use Rattle.er_event.specs.declared.commands.Command.TheVariants.{Result as ReportResult}
+use Rattle.er_event.specs.declared.refusals.Refusal.{Refusal}
 use Rattle.er_event.specs.Event.{EventValue}
 use Rattle.er_event.specs.Sound.{IsSoundButForSeeds}
+use Rattle.er_store.specs.Fault.{IsFault}
 use Rattle.er_answers.specs.Due.{IsDueAt}
 use Rattle.er_answers.specs.declared.question.Question.{Question}
 use Rattle.er_answers.specs.declared.question.Question.TheVariants as question
@@ -14,7 +16,7 @@ use Rattle.er_slips.specs.declared.request.wanted.Request.TheVariants.{Standings
 use Rattle.er_slips.specs.declared.request.wanted.Fault.{Fault}
 use Rattle.er_slips.specs.declared.request.Next.{Next}
 use Rattle.er_slips.specs.Request.{IsRequest, IsWholeRequest}
-use Rattle.er_slips.specs.Answer.{AnswerValue, fault_answer, message_of}
+use Rattle.er_slips.specs.Answer.{AnswerValue, fault_answer, message_of, refusal_answer}
 
 -- what a request asks the desk; a score that is reported is a command
 abbrev pub question_of : Request → Question
@@ -52,10 +54,10 @@ OneAnswer = (event : EventValue) (serial : ℕ) (input : List ℕ) (one other : 
     → IsSoundButForSeeds event → IsAnswer event serial input one submits → IsAnswer event serial input other also
     → (one ≡ other) × (submits ≡ also)
 
--- The answer to the input on this event, and else a 503: memory was wanting, or the store has a fault. So is answered only
--- a head that passes each check, with the whole of its body: a 400 for a head or a length, a 404, a 405 and a 413 are
+-- The answer to the input on this event, and else a 503 that names why, to the byte: memory was wanting, or the store has a fault. So is
+-- answered only a head that passes each check, with the whole of its body: a 400 for a head or a length, a 404, a 405 and a 413 are
 -- always answered.
 abbrev pub IsAnswerUnless503 : EventValue → ℕ → List ℕ → AnswerValue → Type 0
 IsAnswerUnless503 event serial input answer =
     ((submits : Option Command) × IsAnswer event serial input answer submits)
-    ⊎ ((answer.status ≡ 503) × (next : Next) × IsWholeRequest input next)
+    ⊎ ((why : Refusal) × IsFault why × (answer ≡ refusal_answer why) × (next : Next) × IsWholeRequest input next)

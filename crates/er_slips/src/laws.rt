@@ -1,11 +1,14 @@
 //! Laws of answers, over the definitions alone. A law is a function with no code of its own, whose contract is the law.
 
 ghost use Rattle.er_slips.specs.Retry.{Retries};
+ghost use Rattle.er_slips.specs.Serving.{WritesDue};
 ghost use Rattle.er_slips.specs.Whole.{OneAnswer};
 
+use er_desk::Desk;
 use er_desk::laws::no_double_effect;
 use er_rank::laws::one_standings;
 use er_rules::laws::one_step;
+use sqlite::Alter;
 
 /// Of a sound event, a serial and an input there is one answer, and one command at most is submitted for it.
 pub fn one_answer()
@@ -22,3 +25,8 @@ pub fn retries()
 {
     no_double_effect();
 }
+
+/// Where a desk runs and its tables represent its event, serving a request writes the answer to it, or a 503 that names why.
+pub fn writes_due<S: Alter>(_desk: &Desk<S>)
+    ensures { WritesDue S.Store }
+{}

@@ -1,8 +1,6 @@
-ghost use Rattle.std.specs.Prelude.{◌≡◌, IfSome, IsFalse, MatchResult};
-ghost use Rattle.sqlite.specs.State.{HasCleanDisk};
-ghost use Rattle.er_desk.specs.Desk.{HoldsOwnEvent, desk_state, state};
+ghost use Rattle.std.specs.Prelude.{◌≡◌, MatchResult};
 ghost use Rattle.er_slips.specs.Answer.{IsMessage, answer_value, refusal_answer};
-ghost use Rattle.er_slips.specs.Serving.{AnswersAsked, Writes, Serves, IsWritten};
+ghost use Rattle.er_slips.specs.Serving.{AnswersAsked, Writes, Serves};
 
 mod sending;
 
@@ -84,12 +82,6 @@ pub fn serve_one<S: Alter, R: Read, W: Write>(
     // One score is handed to the desk, or nothing is, and the file takes just that.
     ensures serves { Serves S.Store (R.remaining reader.old) desk.old desk.new
         (W.contents writer.old) (W.contents writer.new) result }
-    // Where the desk runs and its tables represent its event, what is written is the answer to the input, or a 503.
-    ensures written { IfSome (R.remaining reader.old)
-        (λ input. IsFalse (desk_state desk.old).needs_reopen
-        → HasCleanDisk (state S.Store desk.new) × HoldsOwnEvent S.Store desk.old
-        → IsWritten (desk_state desk.old) input (W.contents writer.old)
-        (W.contents writer.new) result) }
 {
     // A desk that is not asked leaves its file as it is: this tells the proof.
     desk.asks_nothing();
