@@ -34,7 +34,9 @@ BODIES = {
     "er_slips/refused-by-tests/never_answers": (SLIPS_TESTS, [SCORE, SHORT]),
     "er_cli/refused-by-tests/waits_for_ever": (CLI_TESTS, [SERVED]),
     "er_cli/refused-by-tests/never_copies_the_log": (CLI_TESTS, [GOES_ON]),
-    "er_cli/refused-by-tests/opens_a_second_time": (CLI_TESTS, [LINES]),
+    "er_cli/refused-by-tests/run_twice": (CLI_TESTS, [LINES]),
+    "er_cli/refused-by-tests/paths_are_absent": (CLI_TESTS, [LINES]),
+    "er_cli/refused-by-tests/hangs_up": (CLI_TESTS, [SERVED]),
     "er_cli/refused-by-tests/line_is_held_back": (CLI_TESTS, [SERVED]),
     "er_cli/refused-by-tests/answer_is_held_back": (CLI_TESTS, [ANSWERED]),
 }

@@ -1,6 +1,5 @@
 -- One connection after the other.
-use Rattle.std.proofs.Common.{◌≡◌, ◌⊎◌, inl, inr, ℕ, suc, ◌+◌, Bool, List, [], ◌∷◌, Option, Result, Ok, Err, refl, ap, subst, ◌∙◌, arith}
-use Rattle.std.proofs.Math.Nat.{le_refl}
+use Rattle.std.proofs.Common.{◌≡◌, ◌⊎◌, inl, inr, ℕ, suc, ◌+◌, Bool, List, [], ◌∷◌, Option, Some, None, IfSome, Result, Ok, Err, refl, ap, subst, ◌∙◌, arith}
 use Rattle.std.specs.Io.KnownBytes.{Appends}
 use Rattle.sqlite_trees.specs.declared.store.Store.{Ghosts}
 use Rattle.sqlite.specs.State.{HasCleanDisk}
@@ -14,7 +13,10 @@ use Rattle.er_slips.specs.{declared.request.wanted.Request.Request}
 use Rattle.er_slips.specs.{declared.request.wanted.Request.TheVariants.{Standings, Pairings, Slip, Report}}
 use Rattle.er_slips.specs.declared.request.wanted.Fault.{Fault}
 use Rattle.er_slips.specs.{declared.serve.Served.Served, declared.serve.Served.TheVariants.{Answered, ReadFault, WriteFault}}
-use Rattle.er_cli.specs.{declared.TheConstants.{DONE, DEVICE}, Serving.{Connects, ConnectsAll, ConnectsUpTo, PrintsServed}}
+use Rattle.er_cli.specs.{declared.TheConstants.{DEVICE}, Serving.{Connects, ConnectsAll, ConnectsNext, SendsNext, PrintsServed}}
+use Rattle.er_slips.specs.Request.{IsRequest}
+use Rattle.er_desk.specs.Run.{no_session}
+use Rattle.er_cli.specs.Clients.{IsNextClient}
 use Rattle.er_cli.specs.{Help.stream, inside.Serving.{listening_text, served_text}, Texts.AppendsPart}
 use Rattle.er_cli.proofs.Sending.{part_after, part_first, whole_part}
 
@@ -29,30 +31,30 @@ one_reply round table score told (Err why) is stopped =
 
 -- what serving a request does to the desk
 module _ (Represented : Type 0) (old : DeskState) (session : Session) (new : DeskState) where
-  asked_connects : (asked : Result Request Fault) (answer : AnswerValue) → AnswersRequest Represented old asked answer session new
-      → Connects old session new
-  asked_connects (Err fault) answer it = inl (it.2, it.1)
-  asked_connects (Ok Standings) answer (told, it, message, nothing) = inr (inl (it.does.0, it.does.1, nothing))
-  asked_connects (Ok (Pairings round)) answer (told, it, message, nothing) = inl (it.does.1, nothing)
-  asked_connects (Ok (Slip round table)) answer (told, it, message, nothing) = inr (inr (inl (it.does.0, it.does.1, nothing)))
-  asked_connects (Ok (Report round table score)) answer (told, it, message, asks) =
+  asked_connects : (input : Option (List ℕ)) (asked : Result Request Fault) (answer : AnswerValue)
+      → IfSome input (λ xs. IsRequest xs asked) → AnswersRequest Represented old asked answer session new → Connects input old session new
+  asked_connects input (Err fault) answer asks it = inl (it.2, it.1)
+  asked_connects input (Ok Standings) answer wanted (told, it, message, nothing) = inr (inl (it.does.0, it.does.1, nothing))
+  asked_connects input (Ok (Pairings round)) answer wanted (told, it, message, nothing) = inl (it.does.1, nothing)
+  asked_connects input (Ok (Slip round table)) answer wanted (told, it, message, nothing) = inr (inr (inl (it.does.0, it.does.1, nothing)))
+  asked_connects input (Ok (Report round table score)) answer wanted (told, it, message, asks) =
       let (reply, turn, is) = it.does in
-      inr (inr (inr (round, table, score, reply, turn, asks ∙ one_reply round table score told reply is new.needs_reopen)))
+      inr (inr (inr (round, table, score, reply, wanted, turn, asks ∙ one_reply round table score told reply is new.needs_reopen)))
 
   served_connects : (input : Option (List ℕ)) (answer : AnswerValue)
-      → IsServed Represented input old answer session new ⊎ IsUnserved input old answer session new → Connects old session new
-  served_connects input answer (inl (asked, is, answers)) = asked_connects asked answer answers
+      → IsServed Represented input old answer session new ⊎ IsUnserved input old answer session new → Connects input old session new
+  served_connects input answer (inl (asked, is, answers)) = asked_connects input asked answer is answers
   served_connects input answer (inr it) = inl (it.3, it.2)
 
   ends_connecting : (input before after : Option (List ℕ)) (served : Served)
-      → EndsServing Represented input old session new before after served → Connects old session new
+      → EndsServing Represented input old session new before after served → Connects input old session new
   ends_connecting input before after ReadFault it = inl (it.2, it.1)
   ends_connecting input before after (Answered status) (answer, wrote, due) = served_connects input answer due
   ends_connecting input before after (WriteFault sent) (answer, wrote, due) = served_connects input answer due
 
 module _ {S : Type 0} (g : Ghosts S) (input : Option (List ℕ)) (old new : Desk S g) (before after : Option (List ℕ))
     (served : Served) where
-  pub serves_connecting : (it : Serves g input old new before after served) → Connects (desk_state old) it.session (desk_state new)
+  pub serves_connecting : (it : Serves g input old new before after served) → Connects input (desk_state old) it.session (desk_state new)
   serves_connecting it = ends_connecting (HasCleanDisk (state g new) × HoldsOwnEvent g old) (desk_state old) it.session (desk_state new)
       input before after served it.ends
 
@@ -60,17 +62,26 @@ one_more : (count : ℕ) → suc count ≡ count + 1
 one_more count = omega arith
 
 -- one connection more
-pub connects_more : (count : ℕ) (first : DeskState) (before : Session) (old : DeskState) (one : Session) (new : DeskState)
-    → ConnectsAll count first before old → Connects old one new → ConnectsAll (count + 1) first (join_sessions before one) new
-connects_more count first before old one new all more =
-    subst (λ (n : ℕ). ConnectsAll n first (join_sessions before one) new) (one_more count) (old, before, one, all, more, refl)
+pub connects_more : (count : ℕ) (coming mid then : Option (List (List ℕ))) (first : DeskState) (before : Session) (old : DeskState)
+    (one : Session) (new : DeskState)
+    → ConnectsAll count coming mid first before old → ConnectsNext mid then old one new
+    → ConnectsAll (count + 1) coming then first (join_sessions before one) new
+connects_more count coming mid then first before old one new all more =
+    subst (λ (n : ℕ). ConnectsAll n coming then first (join_sessions before one) new) (one_more count)
+    (mid, old, before, one, all, more, refl)
 
--- all of so many are so many at most
-pub connects_up_to : (count status : ℕ) (old : DeskState) (session : Session) (new : DeskState)
-    → ((status ≡ DONE) × ConnectsAll count old session new) ⊎ ((status ≡ DEVICE) × ConnectsUpTo count old session new)
-    → ConnectsUpTo count old session new
-connects_up_to count status old session new (inl (done, all)) = (count, le_refl count, all)
-connects_up_to count status old session new (inr (broke, some)) = some
+-- nobody came, and the desk was asked nothing
+pub comes_nobody : (coming then : Option (List (List ℕ))) (old : DeskState) → IfSome coming (λ inputs. then ≡ coming)
+    → ConnectsNext coming then old no_session old
+comes_nobody None then old same = (None, tt, inl (refl, refl))
+comes_nobody (Some inputs) then old same = (Some [], inr (refl, same), inl (refl, refl))
+
+-- one who came
+pub comes_next : (coming mid then : Option (List (List ℕ))) (reads wrote : Option (List ℕ)) (was : Bool)
+    → IfSome coming (λ inputs. IsNextClient inputs reads wrote was mid) → then ≡ mid → SendsNext coming reads then
+comes_next None mid then reads wrote was it same = tt
+comes_next (Some inputs) mid then reads wrote was (input, rest, is, sends, nothing, fine, others) same =
+    inl (input, rest, is, sends, same ∙ others)
 
 -- ---- what is printed where serving ends early
 

@@ -1,14 +1,13 @@
 -- A history goes on with what a command line asks.
-use Rattle.std.proofs.Common.{◌≡◌, ◌⊎◌, inl, inr, ℕ, Bool, true, false, IsTrue, IsFalse, List, [], ◌∷◌, Option, Some, None}
+use Rattle.std.proofs.Common.{◌≡◌, ◌≢◌, ◌⊎◌, inl, inr, ℕ, Bool, true, false, IsTrue, IsFalse, List, [], ◌∷◌, Option, Some, None}
 use Rattle.std.proofs.Common.{Vec, Global, Result, Ok, Err, is_ok, refl, sym, ap, subst, ◌∙◌, arith, true≢false}
-use Rattle.sqlite.specs.{Tree.Trees, State.HasCleanDisk, declared.file.Leftover.Leftover}
+use Rattle.sqlite.specs.{Tree.Trees, State.HasCleanDisk}
 use Rattle.sqlite.specs.Files.{HoldsDatabase, file_state, over_files}
 use Rattle.sqlite_disk.specs.declared.Disk as disk
 use Rattle.sqlite_wal.specs.Recovery.{Image}
 use Rattle.sqlite_store.specs.declared.store.FileStore.{FileStore}
-use Rattle.sqlite.specs.declared.error.Error.{Error}
 use Rattle.er_event.specs.{declared.commands.Command.Command, declared.commands.Receipt.Receipt, declared.refusals.Refusal.Refusal}
-use Rattle.er_event.specs.{declared.refusals.Refusal.TheVariants.{Memory, NoEvent}, Event.EventValue}
+use Rattle.er_event.specs.{declared.refusals.Refusal.TheVariants.{BadSetup, Memory, NoEvent}, Event.EventValue}
 use Rattle.er_rank.specs.declared.rows.Row.{Row}
 use Rattle.er_store.specs.{Fault.{IsFault}, Representing.{AfterCrash, RepresentsAt}, Layout.{Layout, version_of}}
 use Rattle.er_desk.specs.{declared.desk.Desk.Desk, Desk.{Point, Placed, DeskState, Outcome, Reads, HoldsOwnEvent, point_of}}
@@ -19,7 +18,8 @@ use Rattle.sqlite_trees.specs.declared.store.Store.{Ghosts}
 use Rattle.er_desk.specs.{Asking.{Asks, GoesOnFrom, NextSessions}}
 use Rattle.er_desk.specs.{History.new_point, Opening.HoldsNothing}
 use Rattle.er_event.specs.Sound.{IsSetUp}
-use Rattle.er_cli.specs.{Files.WorksOn, Left.{IsClearedOf, ClosesFile, WasOpenedClean}, Next.GoesTo}
+use Rattle.er_cli.specs.{Files.{MakesEvent, WorksOn}, Left.{IsClearedOf, ClosesFile, WasOpenedClean}, Next.{GoesTo, RecoversSession}}
+use Rattle.er_cli.specs.World.{World}
 use Rattle.er_cli.specs.declared.left.{Left.Left, Left.TheVariants.Nothing}
 use Rattle.er_cli.proofs.Leaving.{put_such, put_clean, was_put, cleared_such, cleared_clean, cleared_unopened, cleared_sound, put_sound}
 use Rattle.er_cli.proofs.Leaving.{BeginsIn, left_by}
@@ -30,7 +30,7 @@ use Rattle.sqlite_catalog.specs.Listing.{IsSound}
 use Rattle.er_store.specs.Layout.Layout.{Old, New, Moved}
 use Rattle.er_desk.specs.{declared.opening.OpenFault.OpenFault, declared.opening.OpenFault.TheVariants.Unopened as NotOpened}
 use Rattle.er_desk.specs.{declared.opening.OpenFault.TheVariants.Refused as OpenedInVain}
-use Rattle.er_desk.specs.{Opening.{OnRefused, OnUnopened, WhereUnopened, IsCleanFault, HoldsStill, why_of}}
+use Rattle.er_desk.specs.{Opening.{OnRefused, OnUnopened, SparesAt, WhereUnopened, IsCleanFault, HoldsStill, why_of}}
 use Rattle.er_event.specs.{declared.slips.SlipRow.SlipRow, Slip.slip_of, declared.refusals.Refusal.TheVariants.NoSuchMatch}
 use Rattle.er_store.specs.Fault.{IsReadFault}
 use Rattle.er_answers.specs.Answers.{AnswersDesk, AsksFor, DoesAsked, MovesFile, session_at}
@@ -38,11 +38,11 @@ use Rattle.er_answers.specs.{Due.{IsAnswerAt, IsDueAt, OrFault}, Question.{IsRow
 use Rattle.er_answers.specs.declared.question.{Question.Question, Told.Told, Told.TheVariants.{Accepted, Refused}}
 use Rattle.er_answers.specs.declared.question.Question.TheVariants.{Submit, Standings, Show, Slip as SlipOf, Migrate}
 use Rattle.er_cli.specs.declared.action.{Task.Task, Task.TheVariants.{Ask, Import, Serve}}
-use Rattle.er_cli.specs.GoingOn.{GoesOnBy, LeadsToVersion, MayMoveTables, StaysUnopened}
+use Rattle.er_cli.specs.GoingOn.{GoesOnBy, LeadsToVersion, MakesNoOther, MayMoveTables, StaysUnopened}
 use Rattle.er_cli.specs.Tasks.{AnswersQuestion, AnswersTask, DoesTask, Work, work_of}
 use Rattle.er_cli.specs.Tasks.Work.{Commands, Migration}
-use Rattle.er_cli.specs.{Importing.Imports, Serving.ServesClients}
-use Rattle.er_cli.specs.{Words.{Does, GoesOnAction, TellsAndLeaves}, Help.{Printed, Tells}}
+use Rattle.er_cli.proofs.OnlySuch.{imports_only, serves_only}
+use Rattle.er_cli.specs.{Words.{Does, EndsLine, GoesOnAction, TellsAndLeaves}, Help.{Printed, Tells}}
 use Rattle.er_cli.specs.declared.action.{Action.Action, Action.TheVariants.{Init, Open}}
 
 -- ---- a receipt
@@ -338,13 +338,13 @@ work_clean g old (Migration told) new it = it.does.clean
 -- ---- a history that left the file
 
 -- what a line that opens an event goes on with
-abbrev pub GoesOn : {D : Type 0} (d : disk.Ghosts D) → (Error → Option (Leftover D d) → Type 0) → Image → Point → List Ended → Placed
-    → Left D d → Printed → Task → Type 0
-GoesOn d Spares image new ends first what p task =
+abbrev pub GoesOn : {D : Type 0} (d : disk.Ghosts D) → World → Image → Point → List Ended
+    → Placed → Left D d → Printed → Task → Type 0
+GoesOn d world image new ends first what p task =
     TellsAndLeaves (λ (work : Work). AnswersTask (WasOpenedClean what) first task work p)
     (λ (work : Work). GoesOnBy d image new ends first work what)
     ⊎ TellsAndLeaves (λ (why : Refusal). Tells (Refused why) p)
-    (λ (why : Refusal). StaysUnopened d Spares new ends first why what)
+    (λ (why : Refusal). StaysUnopened d image new ends first why what)
 
 module _ (law : NextSessions) (image : Image) (new : Point) (first : Placed) (ends : List Ended)
     (was : RecoversHistory image new ends first) where
@@ -374,18 +374,6 @@ module _ (law : NextSessions) (image : Image) (new : Point) (first : Placed) (en
           stopped);
     }
 
-    -- what was done by a list of names or by clients was done to the desk of the event at the history's end
-    handed : (desk last : Desk (FileStore D d) over_files) → IsFound d image first desk
-        → (HasCleanDisk (state over_files last) → HasCleanDisk (state over_files desk)) → IsFalse (desk_state desk).needs_reopen
-        → (Did : DeskState → Session → DeskState → Type 0) (session : Session) → Did (desk_state desk) session (desk_state last)
-        → ClosesFile (state over_files last) what → WasOpenedClean what
-        → (end : DeskState) × Did (running_at first.point first.version) session end
-    handed desk last found cleans runs Did session did put = put_clean _ (state over_files last) what put (λ clean. (
-      desk_state last,
-      subst (λ (s : DeskState). Did s session (desk_state last))
-          (runs_at (desk_state desk) first runs (found.finds (cleans clean)).found) did,
-    ))
-
     -- the half of the file
     goes_on_by : (desk last : Desk (FileStore D d) over_files) → IsFound d image first desk → (work : Work)
         → WorksOn over_files desk work last → ClosesFile (state over_files last) what → GoesOnBy d image new ends first work what
@@ -413,12 +401,12 @@ module _ (law : NextSessions) (image : Image) (new : Point) (first : Placed) (en
     refused_fault (NotOpened refusal left) why is failed = tt
     refused_fault (OpenedInVain conn refusal) why is failed = λ clean. subst IsFault (sym is) (failed clean)
 
-    module _ (Spares : Error → Option (Leftover D d) → Type 0) (p : Printed) where
+    module _ (world : World) (p : Printed) where
       -- the half of what is told
       answers_task : (task : Task) (desk last : Desk (FileStore D d) over_files) → IsFalse (desk_state desk).needs_reopen
           → IsFound d image first desk → (HasCleanDisk (state over_files last) → HasCleanDisk (state over_files desk))
           → ClosesFile (state over_files last) what → (work : Work)
-          → DoesTask (HasCleanDisk (state over_files last) × HoldsOwnEvent over_files desk) (desk_state desk) task work (desk_state last) p
+          → DoesTask world (HasCleanDisk (state over_files last) × HoldsOwnEvent over_files desk) (desk_state desk) task work (desk_state last) p
           → AnswersTask (WasOpenedClean what) first task work p
       answers_task (Ask question) desk last runs found cleans put work (told, answers, is, tells) = (
         told,
@@ -427,13 +415,13 @@ module _ (law : NextSessions) (image : Image) (new : Point) (first : Placed) (en
         tells,
       )
       answers_task (Import list) desk last runs found cleans put work (session, is, did) =
-          (session, is, handed desk last found cleans runs (Imports p) session did put)
+          (session, is, imports_only p (world.list list) (desk_state desk) session (desk_state last) did)
       answers_task (Serve port count) desk last runs found cleans put work (session, is, did) =
-          (session, is, handed desk last found cleans runs (ServesClients p count) session did put)
+          (session, is, serves_only p count (world.coming port) (desk_state desk) session (desk_state last) did)
 
       pub task_goes_on : (task : Task) (desk last : Desk (FileStore D d) over_files) → IsFalse (desk_state desk).needs_reopen
-          → IsFound d image first desk → Does over_files desk task last p → ClosesFile (state over_files last) what
-          → GoesOn d Spares image new ends first what p task
+          → IsFound d image first desk → Does over_files world desk task last p → ClosesFile (state over_files last) what
+          → GoesOn d world image new ends first what p task
       task_goes_on task desk last runs found it put = inl (record {
         done = it.done;
         told = answers_task task desk last runs found (work_clean over_files desk it.done last it.file) put it.done it.told;
@@ -443,21 +431,54 @@ module _ (law : NextSessions) (image : Image) (new : Point) (first : Placed) (en
       pub unopened_goes_on : (task : Task) (fault : OpenFault D d) (why : Refusal) → why ≡ why_of fault → IsClearedOf fault what
           → (IsCleanFault fault → IsFault (why_of fault))
           → ((db : Trees) → HoldsDatabase image db → OnRefused fault (λ conn. AfterCrash (file_state conn) (λ trees. trees ≡ db)))
-          → WhereUnopened fault (IsFault (why_of fault)) → OnUnopened fault Spares → Tells (Refused why) p
-          → GoesOn d Spares image new ends first what p task
+          → WhereUnopened fault (IsFault (why_of fault)) → OnUnopened fault (SparesAt image) → Tells (Refused why) p
+          → GoesOn d world image new ends first what p task
       unopened_goes_on task fault why is cleared cause kept failed spared tells =
-          let stays : StaysUnopened d Spares new ends first why what = record {
+          let stays : StaysUnopened d image new ends first why what = record {
             fault = cleared_clean (IsFault why) fault what cleared (refused_fault fault why is cause);
             leaves = left_by (Stays first.version) new ends no_session was.begins what (cleared_sound fault what cleared)
                 (cleared_such (BeginsIn (Stays first.version) new ends no_session) fault what cleared (refused_next fault kept));
-            unopened = cleared_unopened Spares fault why what is cleared failed spared;
+            unopened = cleared_unopened image fault why what is cleared failed spared;
           } in
           inr (record { done = why; told = tells; file = stays })
 
-module _ {D : Type 0} (d : disk.Ghosts D) (Spares : Error → Option (Leftover D d) → Type 0) (image : Image) (what : Left D d) (p : Printed)
-  where
-    -- the file is not there, or memory is wanting for any words
-    pub absent_goes_on : (why : Refusal) → (why ≡ NoEvent) ⊎ IsFault why → what ≡ Nothing → Tells (Refused why) p
-        → (action : Action) → GoesOnAction d Spares image action what p
-    absent_goes_on why cause none tells (Init name rounds cut) = tt
-    absent_goes_on why cause none tells (Open task) = inl (record { done = why; told = tells; file = (none, cause) })
+module _ {D : Type 0} (d : disk.Ghosts D) (world : World) (file : List ℕ) (what : Left D d) (p : Printed) where
+  -- the file is not there
+  pub absent_goes_on : (why : Refusal) → ((why ≡ NoEvent) × (world.is_there file ≢ Some true)) ⊎ IsFault why → what ≡ Nothing
+      → Tells (Refused why) p → (task : Task) → GoesOnAction d world file (Open task) what p
+  absent_goes_on why cause none tells task = inl (record { done = why; told = tells; file = (none, cause) })
+
+  -- memory is wanting for any words
+  pub unread_goes_on : what ≡ Nothing → Tells (Refused Memory) p → (action : Action) → GoesOnAction d world file action what p
+  unread_goes_on none tells (Init name rounds cut) = λ new first ends was. record {
+    done = Refused Memory;
+    told = tells;
+    file = record {
+      refused = λ opened. (Memory, refl, inr (inr (inl refl)));
+      leaves = subst (λ (left : Left D d). RecoversSession d (Stays first.version) new ends no_session left) (sym none) tt;
+    };
+  }
+  unread_goes_on none tells (Open task) = absent_goes_on Memory (inr (inl refl)) none tells task
+
+  module _ (new : Point) (first : Placed) (ends : List Ended) (was : RecoversHistory (world.image file) new ends first) where
+    -- Where a history is, no other event is made on a clean disk.
+    no_other : (name : List ℕ) (rounds cut : ℕ) (told : Told) → MakesEvent d (world.image file) name rounds cut told what
+        → MakesNoOther d new ends first told what
+    no_other name rounds cut told (inl (set_up, is, (desk, made, put, begins))) = record {
+      refused = λ opened. absurd (put_clean ⊥ (state over_files desk) what put (made.absent first was.left)
+          (opened (was_put (state over_files desk) what put)));
+      leaves = left_by (Stays first.version) new ends no_session was.begins what (put_sound (state over_files desk) what put)
+          (put_such (BeginsIn (Stays first.version) new ends no_session) (state over_files desk) what put
+          (λ clean trees may. absurd (made.absent first was.left clean)));
+    }
+    no_other name rounds cut told (inr (inl (set_up, (why, is, none)))) =
+        record { refused = λ opened. (why, is, inr none.cause); leaves = none.stays new ends first was }
+    no_other name rounds cut told (inr (inr (unlawful, is, nothing))) = record {
+      refused = λ opened. (BadSetup, is, inl refl);
+      leaves = subst (λ (left : Left D d). RecoversSession d (Stays first.version) new ends no_session left) (sym nothing) tt;
+    }
+
+  pub init_goes_on : (name : List ℕ) (rounds cut : ℕ) → EndsLine d world file what p (Init name rounds cut)
+      → GoesOnAction d world file (Init name rounds cut) what p
+  init_goes_on name rounds cut it new first ends was =
+      record { done = it.done; told = it.told; file = no_other new first ends was name rounds cut it.done it.file }

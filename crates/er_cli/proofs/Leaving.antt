@@ -16,7 +16,7 @@ use Rattle.er_desk.specs.Desk.{Point, placed_at}
 use Rattle.er_desk.specs.{Run.Session, History.Ended, Headline.{IsBeginning, NextBegins}}
 use Rattle.er_desk.specs.declared.opening.OpenFault.{OpenFault}
 use Rattle.er_desk.specs.declared.opening.OpenFault.TheVariants as fault
-use Rattle.er_desk.specs.Opening.{NamesFirstFault, NamesFirstFaultIn, OnRefused, OnUnopened, WhereUnopened, why_of}
+use Rattle.er_desk.specs.Opening.{NamesFirstFault, NamesFirstFaultIn, OnRefused, OnUnopened, SparesAt, WhereUnopened, why_of}
 use Rattle.er_cli.specs.declared.left.Left.{Left}
 use Rattle.er_cli.specs.declared.left.Left.TheVariants as left
 use Rattle.er_cli.specs.Left.{HoldSuch, IfUnopened, IsClearedOf, ClosesFile, KeepsAll, RecoversSuch, WasOpenedClean}
@@ -109,9 +109,9 @@ module _ {D : Type 0} {d : disk.Ghosts D} where
   pub put_opened : (Spares : Error → Option (Leftover D d) → Type 0) (why : Refusal) (s : State) (what : Left D d) → ClosesFile s what
       → IfUnopened Spares why what
   put_opened Spares why s left.Nothing none = absurd none
-  put_opened Spares why s (left.Closed files) closed = tt
-  put_opened Spares why s (left.Unclosed store) keeps = tt
-  put_opened Spares why s (left.Unopened rest) none = absurd none
+  put_opened image why s (left.Closed files) closed = tt
+  put_opened image why s (left.Unclosed store) keeps = tt
+  put_opened image why s (left.Unopened rest) none = absurd none
 
   -- ---- of an opening that was refused
 
@@ -139,14 +139,14 @@ module _ {D : Type 0} {d : disk.Ghosts D} where
   cleared_sound (fault.Unopened error (Some rest)) what is = subst IsSoundLeft (sym is) tt
   cleared_sound (fault.Refused conn refusal) what put = put_sound (file_state conn) what put
 
-  pub cleared_unopened : (Spares : Error → Option (Leftover D d) → Type 0) (why : OpenFault D d) (said : Refusal) (what : Left D d)
-      → said ≡ why_of why → IsClearedOf why what → WhereUnopened why (IsFault (why_of why)) → OnUnopened why Spares
-      → IfUnopened Spares said what
-  cleared_unopened Spares (fault.Unopened error None) said what so is failed spared =
-      subst (IfUnopened Spares said) (sym is) (error, so, subst IsFault (sym so) failed, spared)
-  cleared_unopened Spares (fault.Unopened error (Some rest)) said what so is failed spared =
-      subst (IfUnopened Spares said) (sym is) (error, so, subst IsFault (sym so) failed, spared)
-  cleared_unopened Spares (fault.Refused conn refusal) said what so put failed spared = put_opened Spares said (file_state conn) what put
+  pub cleared_unopened : (image : Image) (why : OpenFault D d) (said : Refusal) (what : Left D d)
+      → said ≡ why_of why → IsClearedOf why what → WhereUnopened why (IsFault (why_of why)) → OnUnopened why (SparesAt image)
+      → IfUnopened (SparesAt image) said what
+  cleared_unopened image (fault.Unopened error None) said what so is failed spared =
+      subst (IfUnopened (SparesAt image) said) (sym is) (error, so, subst IsFault (sym so) failed, spared)
+  cleared_unopened image (fault.Unopened error (Some rest)) said what so is failed spared =
+      subst (IfUnopened (SparesAt image) said) (sym is) (error, so, subst IsFault (sym so) failed, spared)
+  cleared_unopened image (fault.Refused conn refusal) said what so put failed spared = put_opened (SparesAt image) said (file_state conn) what put
 
   named : (image : Image) (why : OpenFault D d) (said : Refusal) → said ≡ why_of why
       → OnRefused why (λ conn. HasCleanDisk (file_state conn) → NamesFirstFaultIn image (file_state conn) (why_of why))
@@ -155,16 +155,15 @@ module _ {D : Type 0} {d : disk.Ghosts D} where
   named image (fault.Refused conn refusal) said so first = λ clean.
       let it = first clean in (it.0, it.1, it.2, subst (NamesFirstFault it.0) (sym so) it.3)
 
-  pub not_opened : (Spares : Error → Option (Leftover D d) → Type 0) (image : Image) (why : OpenFault D d) (said : Refusal)
-      (what : Left D d)
+  pub not_opened : (image : Image) (why : OpenFault D d) (said : Refusal) (what : Left D d)
       → said ≡ why_of why → IsClearedOf why what → (why_of why ≡ NoEvent) ⊎ IsLoadFault (why_of why)
       → WhereUnopened why (IsFault (why_of why))
       → OnRefused why (λ conn. HasCleanDisk (file_state conn) → NamesFirstFaultIn image (file_state conn) (why_of why))
       → ((db : Trees) → HoldsDatabase image db → OnRefused why (λ conn. AfterCrash (file_state conn) (λ trees. trees ≡ db)))
-      → OnUnopened why Spares → IsNotOpened Spares image said what
-  not_opened Spares image why said what so is cause failed first kept spared = record {
+      → OnUnopened why (SparesAt image) → IsNotOpened image said what
+  not_opened image why said what so is cause failed first kept spared = record {
     cause = subst (λ (w : Refusal). (w ≡ NoEvent) ⊎ IsLoadFault w) (sym so) cause;
-    unopened = cleared_unopened Spares why said what so is failed spared;
+    unopened = cleared_unopened image why said what so is failed spared;
     first = cleared_clean (NamesFirst image said) why what is (named image why said so first);
     kept = λ db holds. cleared_such (λ trees. trees ≡ db) why what is (kept db holds);
   }

@@ -16,3 +16,6 @@ mod Asked
 mod Holding
 mod Lengthening
 mod Helping
+mod Stopping
+mod Hosting
+mod OnlySuch

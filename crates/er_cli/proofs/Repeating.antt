@@ -233,7 +233,7 @@ may_end first last session (inr doubt) = inr (of_doubt session.in_doubt doubt)
     of_doubt None it = absurd it
     of_doubt (Some d) it = (it.mid.event, it.kept.event, it.event)
 
-tried_either : (c : Command) (r : Reply) → (tried_or None c r ≡ None) ⊎ (tried_or None c r ≡ Some c)
+pub tried_either : (c : Command) (r : Reply) → (tried_or None c r ≡ None) ⊎ (tried_or None c r ≡ Some c)
 tried_either h1 r = grind (arith, common_steps)
 
 stopped_tried : (old new : DeskState) (o : Option Command) (c : Command) (r : Reply) → old.needs_reopen ≡ false → new.needs_reopen ≡ true

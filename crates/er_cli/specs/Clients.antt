@@ -3,13 +3,12 @@ use Rattle.std.specs.Prelude.{◌≡◌, ℕ, Bool, true, false, IsFalse, List, 
 use Rattle.sqlite_trees.specs.declared.store.Store.{Ghosts}
 use Rattle.sqlite.specs.State.{HasCleanDisk}
 use Rattle.er_desk.specs.declared.desk.Desk.{Desk}
+use Rattle.er_desk.specs.Asking.{Asks, join_sessions}
 use Rattle.er_desk.specs.Desk.{DeskState, HoldsOwnEvent, desk_state, state}
-use Rattle.er_desk.specs.Run.{Session}
+use Rattle.er_desk.specs.Run.{Session, no_session}
 use Rattle.er_slips.specs.declared.serve.Served.{Served}
 use Rattle.er_slips.specs.declared.serve.Served.TheVariants.{Answered, ReadFault, WriteFault}
-use Rattle.er_slips.specs.Answer.{AnswerValue}
-use Rattle.er_slips.specs.Whole.{IsAnswerUnless503}
-use Rattle.er_cli.specs.Serving.{Connects}
+use Rattle.er_slips.specs.Serving.{EndsServing}
 
 -- what a client got, where that is known, and whether a call of its connection has failed
 pub record Got : Type 0 where
@@ -34,21 +33,25 @@ tells read_failed write_failed (Answered status) = true
 tells read_failed write_failed ReadFault = read_failed
 tells read_failed write_failed (WriteFault sent) = write_failed
 
--- Where no call of its connection has failed, a client got the whole answer to what it sent, on the event that the desk had then, or a 503.
-abbrev pub GetsAnswer : DeskState → List ℕ → Got → Type 0
-GetsAnswer desk input got = IsFalse got.failed → IsFalse desk.needs_reopen
-    → (answer : AnswerValue) × IsAnswerUnless503 desk.event desk.serial input answer × (got.bytes ≡ Some answer.bytes)
+-- How one client was served, whatever state the desk is in: what it sent, what it got, and what was asked of the file for it belong together.
+-- Where no call of its connection has failed, it was answered.
+pub record IsServedTo (Represented : Type 0) (old : DeskState) (input : List ℕ) (got : Got) (session : Session) (new : DeskState)
+    : Type 0 where
+  pub served : Served
+  pub ends : EndsServing Represented (Some input) old session new (Some []) got.bytes served
+  pub answered : IsFalse got.failed → (status : ℕ) × (served ≡ Answered status)
 
 -- each of them, on the event that those before it left
-abbrev pub GetEach : DeskState → List (List ℕ) → List Got → DeskState → Type 0
-GetEach old [] [] new = new ≡ old
-GetEach old (input ∷ inputs) (got ∷ gots) new =
-    (mid : DeskState) × (session : Session) × Connects old session mid × GetsAnswer old input got × GetEach mid inputs gots new
-GetEach old [] (got ∷ gots) new = ⊥
-GetEach old (input ∷ inputs) [] new = ⊥
+abbrev pub GetEach : Type 0 → DeskState → List (List ℕ) → List Got → Session → DeskState → Type 0
+GetEach Represented old [] [] session new = (session ≡ no_session) × (new ≡ old)
+GetEach Represented old (input ∷ inputs) (got ∷ gots) session new =
+    (mid : DeskState) × (one later : Session) × IsServedTo Represented old input got one mid × GetEach Represented mid inputs gots later new
+    × (session ≡ join_sessions one later)
+GetEach Represented old [] (got ∷ gots) session new = ⊥
+GetEach Represented old (input ∷ inputs) [] session new = ⊥
 
--- So many of those who were to come were served by the desk, and each got its answer, where the tables of a desk that runs represented its
--- event, on a clean disk.
+-- So many of those who were to come were served by the desk, one after the other, and the file took what they asked for and nothing else.
+-- That each answer is the one of the event rests on tables that represented it, on a clean disk.
 pub record ServesSome {S : Type 0} (g : Ghosts S) (count : ℕ) (inputs : List (List ℕ)) (before : List Got) (old : Desk S g)
     (coming : Option (List (List ℕ))) (all : List Got) (new : Desk S g) : Type 0 where
   pub came : List (List ℕ)
@@ -58,8 +61,10 @@ pub record ServesSome {S : Type 0} (g : Ghosts S) (count : ℕ) (inputs : List (
   pub many : length came ≡ count
   pub coming_then : coming ≡ Some rest
   pub got_then : all ≡ before ++ gots
-  pub each : HasCleanDisk (state g new) → (IsFalse (desk_state old).needs_reopen → HoldsOwnEvent g old)
-      → GetEach (desk_state old) came gots (desk_state new)
+  pub session : Session
+  pub each : GetEach (HasCleanDisk (state g new) × (IsFalse (desk_state old).needs_reopen → HoldsOwnEvent g old)) (desk_state old) came
+      gots session (desk_state new)
+  pub asks : Asks g old session new
 
 -- The same of clients of whom it is known what they will send, and then what they got.
 abbrev pub ServesKnown : {S : Type 0} (g : Ghosts S) (count : ℕ) (inputs : Option (List (List ℕ))) (before : Option (List Got))

@@ -1,10 +1,8 @@
 -- What a command line does to the file of an event, whatever that held. How that is printed is the other half, which is not here.
-use Rattle.std.specs.Prelude.{◌≡◌, ◌⊎◌, ℕ, List, [], Option}
+use Rattle.std.specs.Prelude.{◌≡◌, ◌≢◌, ◌⊎◌, ℕ, Bool, true, List, [], Option, Some}
 use Rattle.sqlite_disk.specs.declared.Disk as disk
 use Rattle.sqlite_trees.specs.declared.store.Store.{Ghosts}
 use Rattle.sqlite_store.specs.declared.store.FileStore.{FileStore}
-use Rattle.sqlite.specs.declared.error.Error.{Error}
-use Rattle.sqlite.specs.declared.file.Leftover.{Leftover}
 use Rattle.sqlite.specs.Tree.{Trees}
 use Rattle.sqlite.specs.Effect.{Database, IsDatabase}
 use Rattle.sqlite.specs.Files.{AreFoundIn, HoldsDatabase, over_files}
@@ -17,32 +15,32 @@ use Rattle.er_store.specs.Representing.{Either, IsStoredIn}
 use Rattle.er_store.specs.Beside.{IsStoredBeside}
 use Rattle.er_desk.specs.declared.desk.Desk.{Desk}
 use Rattle.er_desk.specs.Asking.{Asks}
-use Rattle.er_desk.specs.Desk.{Point, state}
+use Rattle.er_desk.specs.Desk.{Point, Placed, state}
 use Rattle.er_desk.specs.Files.{HasMade}
-use Rattle.er_desk.specs.Opening.{HoldsNothing, ListsNothing, NamesFirstFault}
-use Rattle.er_desk.specs.History.{new_point}
+use Rattle.er_desk.specs.Headline.{RecoversHistory}
+use Rattle.er_desk.specs.Opening.{HasAnEvent, HoldsNothing, ListsNothing, NamesFirstFault, SparesAt}
+use Rattle.er_desk.specs.History.{Ended, new_point}
 use Rattle.er_desk.specs.Reply.{receipt}
 use Rattle.er_desk.specs.Run.{no_session}
 use Rattle.er_answers.specs.Answers.{MovesFile}
 use Rattle.er_answers.specs.declared.question.Told.{Told}
 use Rattle.er_answers.specs.declared.question.Told.TheVariants.{Accepted, Refused}
 use Rattle.er_cli.specs.Left.{IfUnopened, ClosesFile, RecoversSuch, WasOpenedClean}
-use Rattle.er_cli.specs.Next.{GoesTo}
+use Rattle.er_cli.specs.Next.{GoesTo, RecoversSession}
 use Rattle.er_cli.specs.Tasks.{Work}
 use Rattle.er_cli.specs.Tasks.Work.{Commands, Migration}
 use Rattle.er_cli.specs.declared.left.Left.{Left}
 use Rattle.er_cli.specs.declared.left.Left.TheVariants.{Nothing}
 
--- the system says that there is no file, or memory or the device fails before it is opened
-abbrev pub IsNotThere : {D : Type 0} {g : disk.Ghosts D} → Refusal → Left D g → Type 0
-IsNotThere why what = (what ≡ Nothing) × ((why ≡ NoEvent) ⊎ IsFault why)
+-- There is no file, as far as that is known, or memory or the device fails before it is opened.
+abbrev pub IsNotThere : {D : Type 0} {g : disk.Ghosts D} → (is_there : Option Bool) → Refusal → Left D g → Type 0
+IsNotThere is_there why what = (what ≡ Nothing) × (((why ≡ NoEvent) × (is_there ≢ Some true)) ⊎ IsFault why)
 
 -- The event was not opened. No event and a damaged table are the first fault of what the file held, and what is left holds just that:
 -- no table of it changes, and a crash leaves nothing else.
-pub record IsNotOpened {D : Type 0} {g : disk.Ghosts D} (Spares : Error → Option (Leftover D g) → Type 0) (image : Image) (why : Refusal)
-    (what : Left D g) : Type 0 where
+pub record IsNotOpened {D : Type 0} {g : disk.Ghosts D} (image : Image) (why : Refusal) (what : Left D g) : Type 0 where
   pub cause : (why ≡ NoEvent) ⊎ IsLoadFault why
-  pub unopened : IfUnopened Spares why what
+  pub unopened : IfUnopened (SparesAt image) why what
   pub first : WasOpenedClean what → (db : Database) × IsDatabase db × AreFoundIn image db.trees × NamesFirstFault db why
   pub kept : (db : Trees) → HoldsDatabase image db → RecoversSuch (λ trees. trees ≡ db) what
 
@@ -52,11 +50,16 @@ WorksOn g old (Commands session) new = Asks g old session new
 WorksOn g old (Migration told) new = MovesFile g old told new
 
 -- No event was made: the file has one, or memory or the store fails. Of a file that held nothing, nothing is left then, or that event
--- whole; of any other what it held, alone or with the event's tables beside it.
-pub record HasMadeNone {D : Type 0} {g : disk.Ghosts D} (Spares : Error → Option (Leftover D g) → Type 0) (image : Image) (new : Point)
-    (why : Refusal) (what : Left D g) : Type 0 where
+-- whole; of any other what it held, alone or with the event's tables beside it; and of one that a history left just that.
+pub record HasMadeNone {D : Type 0} {g : disk.Ghosts D} (image : Image) (new : Point) (why : Refusal) (what : Left D g)
+    : Type 0 where
   pub cause : (why ≡ EventExists) ⊎ IsFault why
-  pub unopened : IfUnopened Spares why what
+  pub unopened : IfUnopened (SparesAt image) why what
+  -- `EventExists` comes only where something called `event` can be read, and just that is left
+  pub exists : why ≡ EventExists → WasOpenedClean what
+      → (db : Database) × HasAnEvent image db × RecoversSuch (λ trees. trees ≡ db.trees) what
+  pub stays : (first : Point) (ends : List Ended) (last : Placed) → RecoversHistory image first ends last
+      → RecoversSession g (λ version. version ≡ last.version) first ends no_session what
   pub leaves : HoldsNothing image → RecoversSuch (Either ListsNothing (IsStoredIn 2 new.event new.serial)) what
   pub beside : (db : Trees) → HoldsDatabase image db → WasOpenedClean what
       → (old : Database) × (old.trees ≡ db) × IsDatabase old
@@ -64,12 +67,11 @@ pub record HasMadeNone {D : Type 0} {g : disk.Ghosts D} (Spares : Error → Opti
 
 -- An event was made, and its file put away: in a file that held nothing this begins the empty history, with which the next command line
 -- goes on. Or it was not. What may not be set up so is refused before any file is touched.
-abbrev pub MakesEvent : {D : Type 0} (g : disk.Ghosts D) → (Error → Option (Leftover D g) → Type 0) → Image → List ℕ → ℕ → ℕ → Told
-    → Left D g → Type 0
-MakesEvent {D} g Spares image name rounds cut told what =
+abbrev pub MakesEvent : {D : Type 0} (g : disk.Ghosts D) → Image → List ℕ → ℕ → ℕ → Told → Left D g → Type 0
+MakesEvent {D} g image name rounds cut told what =
     (IsSetUp name rounds cut × (told ≡ Accepted (receipt 0))
     × ((desk : Desk (FileStore D g) over_files) × HasMade image name rounds cut desk × ClosesFile (state over_files desk) what
     × (HoldsNothing image → GoesTo g (λ version. version ≡ 2) (new_point name rounds cut) [] no_session what)))
     ⊎ (IsSetUp name rounds cut
-    × ((why : Refusal) × (told ≡ Refused why) × HasMadeNone Spares image (new_point name rounds cut) why what))
+    × ((why : Refusal) × (told ≡ Refused why) × HasMadeNone image (new_point name rounds cut) why what))
     ⊎ ((IsSetUp name rounds cut → ⊥) × (told ≡ Refused BadSetup) × (what ≡ Nothing))

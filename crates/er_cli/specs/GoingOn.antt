@@ -1,20 +1,20 @@
 -- What a command line leaves of the file that a history of a new event left. The history goes on with what was asked of its event,
 -- whenever the program is stopped, and the next command line finds the longer one. What is told is the other half, which is in Tasks.
-use Rattle.std.specs.Prelude.{◌≡◌, ◌⊎◌, ℕ, List, Option}
+use Rattle.std.specs.Prelude.{◌≡◌, ◌⊎◌, ℕ, List}
 use Rattle.sqlite_disk.specs.declared.Disk as disk
 use Rattle.sqlite_wal.specs.Recovery.{Image}
-use Rattle.sqlite.specs.declared.error.Error.{Error}
-use Rattle.sqlite.specs.declared.file.Leftover.{Leftover}
 use Rattle.sqlite.specs.Schema.{Schema}
 use Rattle.sqlite_catalog.specs.Listing.{IsSound}
 use Rattle.sqlite.specs.Tree.{Trees}
 use Rattle.sqlite.specs.Files.{HoldsDatabase}
 use Rattle.er_event.specs.declared.refusals.Refusal.{Refusal}
+use Rattle.er_event.specs.declared.refusals.Refusal.TheVariants.{BadSetup, EventExists}
 use Rattle.er_store.specs.Fault.{IsFault}
 use Rattle.er_store.specs.Layout.{StandsAlone}
 use Rattle.er_store.specs.Layout.Layout.{Old}
 use Rattle.er_store.specs.Representing.{RepresentsAt}
 use Rattle.er_desk.specs.Desk.{Point, Placed}
+use Rattle.er_desk.specs.Opening.{SparesAt}
 use Rattle.er_desk.specs.Run.{no_session}
 use Rattle.er_desk.specs.History.{Ended}
 use Rattle.er_answers.specs.declared.question.Question.{Question}
@@ -22,7 +22,7 @@ use Rattle.er_answers.specs.declared.question.Question.TheVariants.{Migrate}
 use Rattle.er_answers.specs.declared.question.Told.{Told}
 use Rattle.er_answers.specs.declared.question.Told.TheVariants.{Accepted, Refused}
 use Rattle.er_cli.specs.Left.{IfUnopened, WasOpenedClean}
-use Rattle.er_cli.specs.Next.{GoesTo, RecoversSession}
+use Rattle.er_cli.specs.Next.{GoesTo, RecoversSession, WasOpened}
 use Rattle.er_cli.specs.Tasks.{Work}
 use Rattle.er_cli.specs.Tasks.Work.{Commands, Migration}
 use Rattle.er_cli.specs.declared.left.Left.{Left}
@@ -48,10 +48,19 @@ GoesOnBy d image new ends first (Commands session) what = GoesTo d (λ version. 
 GoesOnBy d image new ends first (Migration told) what =
     MayMoveTables image first.point → GoesTo d (LeadsToVersion Migrate told first.version) new ends no_session what
 
+-- An event was to be made where a history is. None was: it is refused that there is one, or for what was asked, or memory or the device fails.
+-- Nothing was asked, and what is left is what the history left.
+pub record MakesNoOther {D : Type 0} (d : disk.Ghosts D) (new : Point) (ends : List Ended) (first : Placed) (told : Told) (what : Left D d)
+    : Type 0 where
+  -- if it was opened, then on a clean disk
+  pub refused : (WasOpened what → WasOpenedClean what)
+      → (why : Refusal) × (told ≡ Refused why) × ((why ≡ BadSetup) ⊎ (why ≡ EventExists) ⊎ IsFault why)
+  pub leaves : RecoversSession d (λ version. version ≡ first.version) new ends no_session what
+
 -- The event was not opened, for memory or by the device. Nothing was asked, and what is left is what the history left.
-pub record StaysUnopened {D : Type 0} (d : disk.Ghosts D) (Spares : Error → Option (Leftover D d) → Type 0) (new : Point)
-    (ends : List Ended) (first : Placed) (why : Refusal) (what : Left D d) : Type 0 where
+pub record StaysUnopened {D : Type 0} (d : disk.Ghosts D) (image : Image) (new : Point) (ends : List Ended) (first : Placed)
+    (why : Refusal) (what : Left D d) : Type 0 where
   pub fault : WasOpenedClean what → IsFault why
   pub leaves : RecoversSession d (λ version. version ≡ first.version) new ends no_session what
   -- what is left of files that were not opened, as the storage crate has it
-  pub unopened : IfUnopened Spares why what
+  pub unopened : IfUnopened (SparesAt image) why what

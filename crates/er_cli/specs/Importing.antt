@@ -84,9 +84,10 @@ module _ (p : Printed) where
       × ((additions : Additions) × (stop : Option Refusal) × Enrols (map (λ line. line.name) lines) old additions stop session new
       × PrintsAdditions additions stop p))
 
-  -- The list can't be read, or memory is wanting for it, or it is taken. Nobody is enrolled but by the last.
-  abbrev pub Imports : DeskState → Session → DeskState → Type 0
-  Imports old session new =
+  -- The list can't be read, or memory is wanting for it, or it is taken. Nobody is enrolled but by the last. Where it is known what the list
+  -- holds, that is taken.
+  abbrev pub Imports : Option (List ℕ) → DeskState → Session → DeskState → Type 0
+  Imports known old session new =
       (EnrolsNobody old session new × Says (codes "cannot read\n") DEVICE p.err p.out p.status)
       ⊎ (EnrolsNobody old session new × Tells (Refused Memory) p)
-      ⊎ ((list : List ℕ) × (length list ≤ MAX_LIST_BYTES) × TakesList list old session new)
+      ⊎ ((list : List ℕ) × (length list ≤ MAX_LIST_BYTES) × IfSome known (λ all. list ≡ all) × TakesList list old session new)

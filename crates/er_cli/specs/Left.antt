@@ -1,4 +1,8 @@
 -- What is left of the file of an event.
+--
+-- A disk is clean while no wrong answer of it was taken as true. The storage crate has three words for it: `HasCleanDisk` of a desk's connection,
+-- `IsClean` of the view of a store, and `AreClean` of two files. Each leads from the later of them back to the earlier: from the files that are
+-- left, or the store, to the desk that was asked (`ClosesFile`).
 use Rattle.std.specs.Prelude.{◌≡◌, Option, Some, None}
 use Rattle.sqlite_disk.specs.declared.Disk as disk
 use Rattle.sqlite_disk.specs.declared.Files.{Files}

@@ -8,7 +8,8 @@
 --
 -- The second is what the file becomes, with no text. Left is what is left of it, Files what a line does to a file that may hold anything,
 -- GoingOn to one that a history left, and Next how the next line finds it. Words joins the halves. Sessions are many command lines over
--- the same two files, in one call, and Clients are those whom a listener serves.
+-- the same two files, in one call, and Clients are those whom a listener serves. Stopped is what a stop at any instant has to do with what
+-- a disk may leave at an exit.
 --
 -- What private functions alone cite lies in `inside`.
 pub mod Setup
@@ -16,6 +17,7 @@ pub mod Texts
 pub mod Input
 pub mod Action
 pub mod Script
+pub mod World
 pub mod Left
 pub mod Next
 pub mod Status
@@ -30,4 +32,5 @@ pub mod Files
 pub mod GoingOn
 pub mod Words
 pub mod Sessions
+pub mod Stopped
 pub mod inside

@@ -34,7 +34,8 @@ RecoversIn In new ends session image =
     (last : Placed) × In last.version × RecoversHistory image new (and_then ends session last.point) last
 
 -- The files of a store that was not closed. Each thing that an opening after a crash may find there is an end of the history with this
--- session, and the next one begins there. The same of the bytes that a crash may leave, where the store still lists its tables by number.
+-- session, and the next one begins there. The same of the bytes that a crash may leave, if the store lists its tables by number: each does that this
+-- program opens, and the storage crate says so of all but one that broke while its log was copied.
 pub record KeepsNext {D : Type 0} (d : disk.Ghosts D) (In : ℕ → Type 0) (new : Point) (ends : List Ended) (session : Session)
     (store : FileStore D d) : Type 0 where
   pub begins : (trees : Trees) → recovers store trees → (version : ℕ) × In version × NextBegins new ends session version trees

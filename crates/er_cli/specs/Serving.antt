@@ -1,6 +1,6 @@
 -- What serving clients does: to the desk, and to what is printed.
 use Rattle.std.specs.Global.{Global}
-use Rattle.std.specs.Prelude.{◌≡◌, ◌⊎◌, ◌≤◌, ℕ, zero, suc, [], ◌∷◌, ◌++◌, Result, Vec, codes}
+use Rattle.std.specs.Prelude.{◌≡◌, ◌⊎◌, ◌≤◌, ℕ, zero, suc, List, [], ◌∷◌, ◌++◌, Option, Some, None, IfSome, Result, Ok, Vec, codes}
 use Rattle.std.specs.Fmt.{decimal}
 use Rattle.er_event.specs.declared.commands.Command.TheVariants.{Result as ReportResult}
 use Rattle.er_event.specs.declared.refusals.Refusal.{Refusal}
@@ -13,34 +13,52 @@ use Rattle.er_desk.specs.Asking.{join_sessions}
 use Rattle.er_desk.specs.Desk.{DeskState, Outcome, ReadsRows, ReadsSlip}
 use Rattle.er_desk.specs.Reply.{Reply}
 use Rattle.er_desk.specs.Run.{Session, session_of, no_session}
+use Rattle.er_slips.specs.declared.request.wanted.Request.TheVariants.{Report}
+use Rattle.er_slips.specs.Request.{IsRequest}
 use Rattle.er_cli.specs.declared.TheConstants.{DONE, DEVICE}
 use Rattle.er_cli.specs.declared.help.TheConstants.{CANNOT_LISTEN}
 use Rattle.er_cli.specs.Help.{Printed, PutsText, Says, Stream, Tells}
 
 -- One connection: the desk stays as it is, reads its standings or a slip, or is handed one score. Only the score is
--- a command.
-abbrev pub Connects : DeskState → Session → DeskState → Type 0
-Connects old session new =
+-- a command. Of a client of whom it is known what it sends, just that asks for the score.
+abbrev pub Connects : (sent : Option (List ℕ)) → DeskState → Session → DeskState → Type 0
+Connects sent old session new =
     ((new ≡ old) × (session ≡ no_session))
     ⊎ ((read : Result (Vec Row Global) Refusal) × ReadsRows old read new × (session ≡ no_session))
     ⊎ ((read : Result SlipRow Refusal) × ReadsSlip old read new × (session ≡ no_session))
-    ⊎ ((round table : ℕ) × (score : Games) × (reply : Reply) × Outcome old (ReportResult round table score) reply new
+    ⊎ ((round table : ℕ) × (score : Games) × (reply : Reply) × IfSome sent (λ input. IsRequest input (Ok (Report round table score)))
+    × Outcome old (ReportResult round table score) reply new
     × (session ≡ session_of (ReportResult round table score ∷ []) (reply ∷ []) new.needs_reopen))
 
--- so many connections, one after the other
-abbrev pub ConnectsAll : ℕ → DeskState → Session → DeskState → Type 0
-ConnectsAll zero old session new = (new ≡ old) × (session ≡ no_session)
-ConnectsAll (suc count) old session new =
-    (last : DeskState) × (before one : Session) × ConnectsAll count old before last × Connects last one new
-    × (session ≡ join_sessions before one)
+-- The next of those who were to come sent this, and the others are still to come. Or nobody came.
+abbrev pub SendsNext : (coming : Option (List (List ℕ))) → (sent : Option (List ℕ)) → (then : Option (List (List ℕ))) → Type 0
+SendsNext None sent then = Unit {0}
+SendsNext (Some inputs) sent then =
+    ((input : List ℕ) × (rest : List (List ℕ)) × (inputs ≡ input ∷ rest) × (sent ≡ Some input) × (then ≡ Some rest))
+    ⊎ ((sent ≡ Some []) × (then ≡ Some inputs))
 
-abbrev pub ConnectsUpTo : ℕ → DeskState → Session → DeskState → Type 0
-ConnectsUpTo most old session new = (count : ℕ) × (count ≤ most) × ConnectsAll count old session new
+-- the next connection
+abbrev pub ConnectsNext : (coming then : Option (List (List ℕ))) → DeskState → Session → DeskState → Type 0
+ConnectsNext coming then old session new = (sent : Option (List ℕ)) × SendsNext coming sent then × Connects sent old session new
+
+-- so many connections, one after the other
+abbrev pub ConnectsAll : ℕ → (coming then : Option (List (List ℕ))) → DeskState → Session → DeskState → Type 0
+ConnectsAll zero coming then old session new = (then ≡ coming) × (new ≡ old) × (session ≡ no_session)
+ConnectsAll (suc count) coming then old session new =
+    (mid : Option (List (List ℕ))) × (last : DeskState) × (before one : Session) × ConnectsAll count coming mid old before last
+    × ConnectsNext mid then last one new × (session ≡ join_sessions before one)
+
+-- of those who were to come
+abbrev pub ConnectsMany : ℕ → (coming : Option (List (List ℕ))) → DeskState → Session → DeskState → Type 0
+ConnectsMany count coming old session new = (then : Option (List (List ℕ))) × ConnectsAll count coming then old session new
+
+abbrev pub ConnectsUpTo : ℕ → (coming : Option (List (List ℕ))) → DeskState → Session → DeskState → Type 0
+ConnectsUpTo most coming old session new = (count : ℕ) × (count ≤ most) × ConnectsMany count coming old session new
 
 -- all of them, or with status 3 some
-abbrev pub ServesAll : (count status : ℕ) → DeskState → Session → DeskState → Type 0
-ServesAll count status old session new =
-    ((status ≡ DONE) × ConnectsAll count old session new) ⊎ ((status ≡ DEVICE) × ConnectsUpTo count old session new)
+abbrev pub ServesAll : (count status : ℕ) → (coming : Option (List (List ℕ))) → DeskState → Session → DeskState → Type 0
+ServesAll count status coming old session new =
+    ((status ≡ DONE) × ConnectsMany count coming old session new) ⊎ ((status ≡ DEVICE) × ConnectsUpTo count coming old session new)
 
 -- the port that is listened at, and at the end how many clients were served, or a beginning of this
 abbrev pub PrintsServed : (port count : ℕ) → Stream → ℕ → Type 0
@@ -52,7 +70,7 @@ abbrev pub PrintsSome : ℕ → Stream → ℕ → Type 0
 PrintsSome count stream status = (port : ℕ) × (port ≤ 65535) × PrintsServed port count stream status
 
 -- Clients were served. Or nobody was listened to: the port can't be had, or memory was wanting.
-abbrev pub ServesClients : Printed → ℕ → DeskState → Session → DeskState → Type 0
-ServesClients p count old session new =
-    (PrintsSome count p.out p.status × (p.err.after ≡ p.err.before) × ServesAll count p.status old session new)
+abbrev pub ServesClients : Printed → ℕ → (coming : Option (List (List ℕ))) → DeskState → Session → DeskState → Type 0
+ServesClients p count coming old session new =
+    (PrintsSome count p.out p.status × (p.err.after ≡ p.err.before) × ServesAll count p.status coming old session new)
     ⊎ ((new ≡ old) × (session ≡ no_session) × (Says CANNOT_LISTEN.now DEVICE p.err p.out p.status ⊎ Tells (Refused Memory) p))

@@ -1,4 +1,4 @@
-ghost use Rattle.std.specs.Prelude.{◌≡◌, ◌||◌, List, ℕ, Option, None, Some, false, IfOk, IfSome, MatchOption, MatchResult, is_err};
+ghost use Rattle.std.specs.Prelude.{◌≡◌, ◌||◌, List, ℕ, Option, None, Some, false, IfOk, IfSome, MatchResult, is_err};
 ghost use Rattle.std.specs.Io.{ReadsAtMost, WritesAtMost};
 ghost use Rattle.std.specs.Io.KnownBytes.{ReadConsumes, WriteAppends, Keeps};
 ghost use Rattle.er_cli.specs.Clients.{Got, IsNextClient, GetsLast, tells};
@@ -10,7 +10,7 @@ use std::net::{TcpListener, TcpStream};
 use std::time::Instant;
 use thiserror::Error;
 
-/// The listener gave no connection.
+/// The listener gave no connection, or none that can be used.
 #[derive(Clone, Copy, Debug, PartialEq, Eq, Error)]
 #[error("the listener gave no connection")]
 pub struct AcceptFault;
@@ -134,12 +134,12 @@ pub trait Clients {
     /// What those got who went away, in their order.
     ghost got: { Self → Option (List Got) } = { λ _. None };
 
-    /// Takes the next client. None where nothing can be done with its connection, so that it counts as gone.
-    fn accept(&mut self) -> Result<Option<Visit<Self::Reader, Self::Writer>>, AcceptFault>
+    /// Takes the next client. If its connection can't be had, there is none.
+    fn accept(&mut self) -> Result<Visit<Self::Reader, Self::Writer>, AcceptFault>
         ensures comes { IfSome (coming self.old) (λ inputs. MatchResult result
-            (λ given. MatchOption given ⊥ (λ visit. IsNextClient inputs (Self.Reader.remaining visit.reader.stream)
+            (λ visit. IsNextClient inputs (Self.Reader.remaining visit.reader.stream)
             (Self.Writer.contents visit.writer.stream) (visit.reader.has_failed || visit.writer.has_failed)
-            (coming self.new)))
+            (coming self.new))
             (λ _. coming self.new ≡ coming self.old)) }
         ensures got { got self.new ≡ got self.old };
 
@@ -154,11 +154,11 @@ pub trait Clients {
 #[derive(Drop)]
 pub struct Listening<'a> {
     rt: &'a HostRuntime,
-    listener: &'a TcpListener,
+    listener: TcpListener,
 }
 
 impl<'a> Listening<'a> {
-    pub fn new(rt: &'a HostRuntime, listener: &'a TcpListener) -> Listening<'a> {
+    pub fn new(rt: &'a HostRuntime, listener: TcpListener) -> Listening<'a> {
         Listening { rt, listener }
     }
 
@@ -180,13 +180,11 @@ impl<'a> Clients for Listening<'a> {
 
     type Writer = Client<'a>;
 
-    fn accept(&mut self) -> Result<Option<Visit<Client<'a>, Client<'a>>>, AcceptFault>
-        ensures { IfOk result (λ given. IfSome given (λ visit. (visit.reader.has_failed || visit.writer.has_failed) ≡ false)) }
+    fn accept(&mut self) -> Result<Visit<Client<'a>, Client<'a>>, AcceptFault>
+        ensures { IfOk result (λ visit. (visit.reader.has_failed || visit.writer.has_failed) ≡ false) }
     {
-        match self.listener.accept() {
-            Ok((stream, _address)) => Ok(self.sides(stream).ok()),
-            Err(_error) => Err(AcceptFault),
-        }
+        let (stream, _address) = self.listener.accept().map_err(|_error| AcceptFault)?;
+        self.sides(stream).map_err(|_error| AcceptFault)
     }
 
     fn let_go(&mut self, visit: Visit<Client<'a>, Client<'a>>)

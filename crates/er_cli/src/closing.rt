@@ -1,4 +1,4 @@
-ghost use Rattle.std.specs.Prelude.{◌≡◌, ◌<◌, ◌↔◌, IsTrue, IfErr, IfOk, if◌then◌else◌, Some, None, MatchOption};
+ghost use Rattle.std.specs.Prelude.{◌≡◌, false, ◌<◌, ◌↔◌, IsTrue, IfErr, IfOk, if◌then◌else◌, Some, None, MatchOption};
 ghost use Rattle.sqlite_disk.specs.Disk.{Cut, Follows};
 ghost use Rattle.sqlite_wal.specs.Reads.{IsClean};
 ghost use Rattle.sqlite_store.specs.FileStore.{state as store_state};
@@ -11,6 +11,7 @@ ghost use Rattle.sqlite_store.specs.FileStore.{view, faults, recovers, is_shield
 ghost use Rattle.sqlite_trees.specs.View.{IsQuiet, IsClean as IsSure, IsRolledBack as IsUndone};
 ghost use Rattle.sqlite.specs.Held.{AreDatabases};
 
+use crate::host::Host;
 use crate::left::{Left, NoDesk};
 use er_desk::{Desk, OpenFault, into_connection};
 use sqlite::{Connection, FileStore, Leftover};
@@ -140,7 +141,7 @@ fn holds_nothing(size: u64) -> bool
 }
 
 /// Removes a log that this run made, where nothing is in it. Whoever calls still holds the file, so that nobody else writes the log.
-fn remove_empty(rt: &HostRuntime, log: &NewLog) {
+pub fn remove_empty(rt: &HostRuntime, log: &NewLog) {
     match fs::metadata(rt, log.path.as_str()) {
         Ok(found) if holds_nothing(found.len()) => {
             let _ = fs::remove_file(rt, log.path.as_str());
@@ -151,11 +152,12 @@ fn remove_empty(rt: &HostRuntime, log: &NewLog) {
 
 /// Takes away what an opening that was refused has left beside the file, and gives back what is left of the file. `log` is a log that this
 /// run made.
-fn clear_refused<D: Disk + Drop>(
-    rt: &HostRuntime,
-    conn: Connection<FileStore<D>>,
+fn clear_refused<H: Host>(
+    host: &mut H,
+    conn: Connection<FileStore<H::File>>,
     log: Option<&NewLog>,
-) -> Left<D>
+) -> Left<H::File>
+    requires { H.is_shut host.old ≡ false }
     ensures { ClosesFile (file_state conn) result }
 {
     let Some(log) = log else {
@@ -163,18 +165,19 @@ fn clear_refused<D: Disk + Drop>(
     };
     let left = close(conn);
     if let Left::Closed(_files) = &left {
-        remove_empty(rt, log);
+        host.remove_empty(log);
     }
     left
 }
 
 /// The same where the file was not opened. Where nothing is left of it, it isn't held, and no log is removed; nor is that of a new
 /// database.
-fn clear_unopened<D: Disk + Drop>(
-    rt: &HostRuntime,
-    left: Option<Leftover<D>>,
+fn clear_unopened<H: Host>(
+    host: &mut H,
+    left: Option<Leftover<H::File>>,
     log: Option<&NewLog>,
-) -> Left<D>
+) -> Left<H::File>
+    requires { H.is_shut host.old ≡ false }
     ensures { MatchOption left (result ≡ Left.Nothing) (λ rest. result ≡ Left.Unopened rest) }
 {
     let Some(rest) = left else {
@@ -183,24 +186,25 @@ fn clear_unopened<D: Disk + Drop>(
     if let Some(log) = log
         && !log.is_beside_nothing
     {
-        remove_empty(rt, log);
+        host.remove_empty(log);
     }
     Left::Unopened(rest)
 }
 
 /// The same of an opening of an event, and says why it was refused.
-pub fn clear_fault<D: Disk + Drop>(
-    rt: &HostRuntime,
-    fault: OpenFault<D>,
+pub fn clear_fault<H: Host>(
+    host: &mut H,
+    fault: OpenFault<H::File>,
     log: Option<&NewLog>,
-) -> NoDesk<D>
+) -> NoDesk<H::File>
+    requires { H.is_shut host.old ≡ false }
     ensures why { result.why ≡ why_of fault }
     ensures left { IsClearedOf fault result.left }
 {
     let why = fault.refusal();
     let left = match fault {
-        OpenFault::Unopened { left, .. } => clear_unopened(rt, left, log),
-        OpenFault::Refused { conn, .. } => clear_refused(rt, conn, log),
+        OpenFault::Unopened { left, .. } => clear_unopened(host, left, log),
+        OpenFault::Refused { conn, .. } => clear_refused(host, conn, log),
     };
     NoDesk { why, left }
 }

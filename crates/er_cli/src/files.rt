@@ -1,6 +1,5 @@
-ghost use Rattle.std.specs.Prelude.{List, ◌≡◌, ◌⊎◌, ◌≤◌, true, false, IsFalse, IfErr, MatchResult};
+ghost use Rattle.std.specs.Prelude.{List, ◌≡◌, ◌≢◌, ◌⊎◌, ◌≤◌, Some, true, false, IsFalse, IsTrue, IfErr, IfOk, MatchResult};
 ghost use Rattle.sqlite.specs.Files.{over_files};
-ghost use Rattle.sqlite_wal.specs.Files.{image_at};
 ghost use Rattle.er_event.specs.declared.commands.TheConstants.{MAX_SERIAL};
 ghost use Rattle.er_rules.specs.Sound.{IsSound};
 ghost use Rattle.er_event.specs.Sound.{AreLimits};
@@ -8,10 +7,9 @@ ghost use Rattle.er_desk.specs.Asking.{Asks, AsksSome};
 ghost use Rattle.er_desk.specs.Desk.{desk_state, state};
 ghost use Rattle.er_desk.specs.Run.{no_session};
 ghost use Rattle.er_desk.specs.History.{new_point};
-ghost use Rattle.er_desk.specs.Opening.{IsSpared};
 ghost use Rattle.er_desk.specs.Reply.{receipt};
 ghost use Rattle.er_cli.specs.declared.action.Action.TheVariants.{Init, Open};
-ghost use Rattle.er_cli.specs.Action.{action_of};
+ghost use Rattle.er_cli.specs.Action.{action_of, file_of};
 ghost use Rattle.er_store.specs.Fault.{IsFault};
 ghost use Rattle.er_cli.specs.Left.{ClosesFile};
 ghost use Rattle.er_desk.specs.Files.{HasMade};
@@ -22,11 +20,13 @@ ghost use Rattle.er_cli.specs.inside.Making.{InitReplies};
 ghost use Rattle.er_cli.specs.Help.{Tells, prints};
 
 use crate::action::{Action, Task, file_and_action};
-use crate::closing::{clear_fault, log_to_make, put_away};
+use crate::closing::{clear_fault, put_away};
 use crate::help::CANNOT_LISTEN;
+use crate::host::Host;
 use crate::importing::import;
 use crate::left::{Left, NoDesk, Ran};
-use crate::serving::serve_on;
+use crate::opening::{create_desk, open_desk};
+use crate::serving::serve_all;
 use crate::setup::set_up;
 use crate::{DEVICE, end_with, print};
 use er_answers::{Told, ask};
@@ -35,17 +35,17 @@ use er_desk::laws::next_sessions;
 use er_event::{Cause, Name, Receipt, Refusal};
 use er_slips::Routes;
 use er_words::Line;
-use sqlite::{Alter, FileFrom, FileStore, Start};
+use sqlite::{Alter, FileStore};
 use sqlite_disk::Disk;
-use std::fs;
+use std::alloc::Global;
 use std::io::Write;
-use std::net::{Ipv4Addr, TcpListener};
 
 /// Sees whether a file is there. One that isn't has no event, and isn't made.
-fn find_file(rt: &HostRuntime, path: &str) -> Result<(), Refusal>
-    ensures { IfErr result (λ why. (why ≡ Refusal.NoEvent) ⊎ IsFault why) }
+fn find_file<H: Host>(host: &H, path: &str) -> Result<(), Refusal>
+    ensures there { IfOk result (λ _. (H.world host.now).is_there path.now ≢ Some false) }
+    ensures absent { IfErr result (λ why. ((why ≡ Refusal.NoEvent) × ((H.world host.now).is_there path.now ≢ Some true)) ⊎ IsFault why) }
 {
-    match fs::exists(rt, path) {
+    match host.is_there(path) {
         Ok(true) => Ok(()),
         Ok(false) => Err(Refusal::NoEvent),
         Err(_error) => Err(Refusal::Store {
@@ -55,38 +55,44 @@ fn find_file(rt: &HostRuntime, path: &str) -> Result<(), Refusal>
 }
 
 /// Makes an event in a file, which is made where it isn't there.
-fn create<S: Start>(
-    rt: &HostRuntime,
+fn create<H: Host>(
+    alloc: Global,
+    host: &mut H,
     path: &str,
     name: Name,
     rounds: u8,
     cut: u8,
-    start: S,
-) -> Result<Desk<FileStore<FileFrom<S>>>, NoDesk<FileFrom<S>>>
+) -> Result<Desk<FileStore<H::File>>, NoDesk<H::File>>
+    requires shut { IsTrue (H.is_shut host.old) }
     requires limits { AreLimits rounds cut }
-    ensures { MatchResult result (HasMade (image_at S.Start) name rounds cut)
-        (λ it. HasMadeNone IsSpared (image_at S.Start) (new_point name rounds cut) it.why it.left) }
+    ensures { MatchResult result (HasMade ((H.world host.old).image path.now) name rounds cut)
+        (λ it. HasMadeNone ((H.world host.old).image path.now)
+        (new_point name rounds cut) it.why it.left) }
 {
-    let log = log_to_make(rt, path);
-    match er_desk::create_in(rt, path, start, name, rounds, cut) {
+    // Where a history is, what a refusal leaves is its end: this tells the proof.
+    next_sessions();
+    let log = host.log_to_make(path);
+    match create_desk(alloc, host, path, name, rounds, cut) {
         Ok(desk) => Ok(desk),
-        Err(fault) => Err(clear_fault(rt, fault, log.as_ref())),
+        Err(fault) => Err(clear_fault(host, fault, log.as_ref())),
     }
 }
 
 /// Makes an event in a file, once it is sure that it may be set up so.
-fn init<S: Start>(
-    rt: &HostRuntime,
+fn init<H: Host>(
+    alloc: Global,
+    host: &mut H,
     path: &str,
     name: &[u8],
     rounds: u8,
     cut: u8,
-    start: S,
-) -> Result<Desk<FileStore<FileFrom<S>>>, NoDesk<FileFrom<S>>>
-    ensures { InitReplies ⟦<FileFrom<S> as Disk>⟧ IsSpared (image_at S.Start) name.now rounds cut result }
+) -> Result<Desk<FileStore<H::File>>, NoDesk<H::File>>
+    requires shut { IsTrue (H.is_shut host.old) }
+    ensures { InitReplies H.File.Disk ((H.world host.old).image path.now)
+        name.now rounds cut result }
 {
-    match set_up(rt.alloc(), name, rounds, cut) {
-        Ok(name) => create(rt, path, name, rounds, cut, start),
+    match set_up(alloc, name, rounds, cut) {
+        Ok(name) => create(alloc, host, path, name, rounds, cut),
         Err(why) => Err(NoDesk {
             why,
             left: Left::Nothing,
@@ -116,31 +122,33 @@ fn print_made<D: Disk + Drop, O: Write, E: Write>(
 }
 
 /// Makes an event, and tells so or why not.
-fn make<S: Start, O: Write, E: Write>(
-    rt: &HostRuntime,
+fn make<H: Host, O: Write, E: Write>(
+    alloc: Global,
+    host: &mut H,
     path: &str,
     name: &[u8],
     rounds: u8,
     cut: u8,
-    start: S,
     out: &mut O,
     err: &mut E,
-) -> Ran<FileFrom<S>>
-    ensures { EndsLine ⟦<FileFrom<S> as Disk>⟧ IsSpared (image_at S.Start) result.left
+) -> Ran<H::File>
+    requires shut { IsTrue (H.is_shut host.old) }
+    ensures { EndsLine H.File.Disk (H.world host.old) path.now result.left
         (prints (O.contents out.old) (O.contents out.new)
         (E.contents err.old) (E.contents err.new) result.status) (Init name.now rounds cut) }
 {
     // What is begun here is the history that the next command line goes on with: this tells the proof.
     next_sessions();
-    match init(rt, path, name, rounds, cut, start) {
+    match init(alloc, host, path, name, rounds, cut) {
         Ok(desk) => print_made(desk, out, err),
         Err(why) => tell_no_desk(out, err, why),
     }
 }
 
 /// Serves the clients of a desk, on this machine alone.
-fn listen<S: Alter, O: Write, E: Write>(
-    rt: &HostRuntime,
+fn listen<H: Host, S: Alter, O: Write, E: Write>(
+    alloc: Global,
+    host: &mut H,
     desk: &mut Desk<S>,
     port: u16,
     count: u32,
@@ -149,22 +157,26 @@ fn listen<S: Alter, O: Write, E: Write>(
 ) -> u8
     ensures { AsksSome S.Store desk.old
         (ServesClients (prints (O.contents out.old) (O.contents out.new)
-        (E.contents err.old) (E.contents err.new) result) count) desk.new }
+        (E.contents err.old) (E.contents err.new) result) count ((H.world host.old).coming port)) desk.new }
 {
     // Where nobody is listened to, nothing is asked of the file: this tells the proof.
     desk.asks_nothing();
-    let Ok(routes) = Routes::new(rt.alloc()) else {
+    let Ok(routes) = Routes::new(alloc) else {
         return tell_refusal(out, err, Refusal::Memory);
     };
-    match TcpListener::bind(rt, (Ipv4Addr::LOCALHOST, port)) {
-        Ok(listener) => serve_on(rt, &routes, desk, &listener, count, out),
+    match host.listen(port) {
+        Ok((visitors, at)) => {
+            let mut visitors = visitors;
+            serve_all(alloc, &routes, desk, &mut visitors, at, count, out)
+        }
         Err(_error) => end_with(err, CANNOT_LISTEN, DEVICE),
     }
 }
 
 /// Does what an event was opened for.
-fn do_task<S: Alter, O: Write, E: Write>(
-    rt: &HostRuntime,
+fn do_task<H: Host, S: Alter, O: Write, E: Write>(
+    alloc: Global,
+    host: &mut H,
     desk: &mut Desk<S>,
     task: Task,
     out: &mut O,
@@ -173,32 +185,33 @@ fn do_task<S: Alter, O: Write, E: Write>(
     requires sound { IsSound desk.old.event }
     requires low { desk.old.serial ≤ MAX_SERIAL }
     requires ready { IsFalse (desk_state desk.old).needs_reopen }
-    ensures { Does S.Store desk.old task desk.new (prints (O.contents out.old) (O.contents out.new)
+    ensures { Does S.Store (H.world host.old) desk.old task desk.new (prints (O.contents out.old) (O.contents out.new)
         (E.contents err.old) (E.contents err.new) result) }
 {
     match task {
-        Task::Ask { question } => print(out, err, &ask(rt.alloc(), desk, question)),
-        Task::Import { list } => import(rt, desk, list.as_str(), out, err),
-        Task::Serve { port, count } => listen(rt, desk, port, count, out, err),
+        Task::Ask { question } => print(out, err, &ask(alloc, desk, question)),
+        Task::Import { list } => import(alloc, host, desk, list.as_str(), out, err),
+        Task::Serve { port, count } => listen(alloc, host, desk, port, count, out, err),
     }
 }
 
 /// Does it with the desk of a file, and closes that once the answer is written.
-fn do_and_close<D: Disk + Drop, O: Write, E: Write>(
-    rt: &HostRuntime,
-    mut desk: Desk<FileStore<D>>,
+fn do_and_close<H: Host, O: Write, E: Write>(
+    alloc: Global,
+    host: &mut H,
+    mut desk: Desk<FileStore<H::File>>,
     task: Task,
     out: &mut O,
     err: &mut E,
-) -> Ran<D>
+) -> Ran<H::File>
     requires sound { IsSound desk.event }
     requires low { desk.serial ≤ MAX_SERIAL }
     requires ready { IsFalse (desk_state desk).needs_reopen }
-    ensures { (last : _) × Does over_files desk task last (prints (O.contents out.old)
+    ensures { (last : _) × Does over_files (H.world host.old) desk task last (prints (O.contents out.old)
         (O.contents out.new) (E.contents err.old) (E.contents err.new) result.status)
         × ClosesFile (state over_files last) result.left }
 {
-    let status = do_task(rt, &mut desk, task, out, err);
+    let status = do_task(alloc, host, &mut desk, task, out, err);
     Ran {
         status,
         left: put_away(desk),
@@ -246,63 +259,59 @@ fn tell_unopened<D: Disk + Drop, O: Write, E: Write>(
 }
 
 /// Opens the event in a file that is there for a task. The file is opened before a list is read, and before anybody is listened to.
-fn open<S: Start, O: Write, E: Write>(
-    rt: &HostRuntime,
+fn open<H: Host, O: Write, E: Write>(
+    alloc: Global,
+    host: &mut H,
     path: &str,
     task: Task,
-    start: S,
     out: &mut O,
     err: &mut E,
-) -> Ran<FileFrom<S>>
-    ensures ends { EndsLine ⟦<FileFrom<S> as Disk>⟧ IsSpared (image_at S.Start) result.left
+) -> Ran<H::File>
+    requires shut { IsTrue (H.is_shut host.old) }
+    requires there { (H.world host.old).is_there path.now ≢ Some false }
+    ensures ends { EndsLine H.File.Disk (H.world host.old) path.now result.left
         (prints (O.contents out.old) (O.contents out.new)
         (E.contents err.old) (E.contents err.new) result.status) (Open task) }
     // Of a file that a history left, the history goes on with what the desk is asked.
-    ensures goes_on { GoesOnTask ⟦<FileFrom<S> as Disk>⟧ IsSpared (image_at S.Start) task
+    ensures goes_on { GoesOnTask H.File.Disk (H.world host.old) path.now task
         result.left (prints (O.contents out.old) (O.contents out.new) (E.contents err.old)
         (E.contents err.new) result.status) }
 {
     // What a session leaves is an end of the history with that session: this tells the proof.
     next_sessions();
-    let log = log_to_make(rt, path);
-    match er_desk::open(rt, path, start) {
-        Ok(desk) => do_and_close(rt, desk, task, out, err),
-        Err(fault) => tell_no_desk(out, err, clear_fault(rt, fault, log.as_ref())),
+    let log = host.log_to_make(path);
+    match open_desk(alloc, host, path) {
+        Ok(desk) => do_and_close(alloc, host, desk, task, out, err),
+        Err(fault) => tell_no_desk(out, err, clear_fault(host, fault, log.as_ref())),
     }
 }
 
 /// Does what a command line asks of its file, and gives the status to end with and what is left of the file.
-pub fn run_line<S: Start, O: Write, E: Write>(
-    rt: &HostRuntime,
+pub fn run_line<H: Host, O: Write, E: Write>(
+    alloc: Global,
+    host: &mut H,
     line: Line,
-    start: S,
     out: &mut O,
     err: &mut E,
-) -> Ran<FileFrom<S>>
-    ensures ends { EndsLine ⟦<FileFrom<S> as Disk>⟧ IsSpared (image_at S.Start) result.left
+) -> Ran<H::File>
+    requires shut { IsTrue (H.is_shut host.old) }
+    ensures ends { EndsLine H.File.Disk (H.world host.old) (file_of line) result.left
         (prints (O.contents out.old) (O.contents out.new)
         (E.contents err.old) (E.contents err.new) result.status) (action_of line) }
-    // Of a file that a history left, the history goes on with what the desk is asked, or the system says that it isn't there.
-    ensures goes_on { GoesOnAction ⟦<FileFrom<S> as Disk>⟧ IsSpared (image_at S.Start) (action_of line)
+    // Of a file that a history left, the history goes on with what the desk is asked, or the system says that it isn't there; and no other
+    // event is made in it.
+    ensures goes_on { GoesOnAction H.File.Disk (H.world host.old) (file_of line) (action_of line)
         result.left (prints (O.contents out.old) (O.contents out.new) (E.contents err.old)
         (E.contents err.new) result.status) }
 {
     let (file, action) = file_and_action(line);
+    let path = file.as_str();
     match action {
         Action::Init { name, rounds, cut } => {
-            make(
-                rt,
-                file.as_str(),
-                name.as_slice(),
-                rounds,
-                cut,
-                start,
-                out,
-                err,
-            )
+            make(alloc, host, path, name.as_slice(), rounds, cut, out, err)
         }
-        Action::Open { task } => match find_file(rt, file.as_str()) {
-            Ok(()) => open(rt, file.as_str(), task, start, out, err),
+        Action::Open { task } => match find_file(host, path) {
+            Ok(()) => open(alloc, host, path, task, out, err),
             Err(why) => tell_unopened(out, err, why),
         },
     }

@@ -1,4 +1,4 @@
-ghost use Rattle.std.specs.Prelude.{◌≡◌, ◌≤◌, [], ◌∷◌, IsFalse, IfOk, vec_len};
+ghost use Rattle.std.specs.Prelude.{◌≡◌, ◌≤◌, [], ◌∷◌, IsFalse, IfOk, IfSome, vec_len};
 ghost use Rattle.er_event.specs.declared.commands.Command.TheVariants.{Enrol};
 ghost use Rattle.er_desk.specs.Asking.{Asks, AsksSome};
 ghost use Rattle.er_desk.specs.Desk.{Outcome, desk_state};
@@ -7,6 +7,7 @@ ghost use Rattle.er_cli.specs.Importing.{Enrols, Imports, PrintsAdditions, fault
 ghost use Rattle.er_cli.specs.inside.Importing.{ImportsList, additions_text, names_of};
 ghost use Rattle.er_cli.specs.Help.{PutsText, prints, stream};
 
+use crate::host::Host;
 use crate::input::{InputFault, read_whole};
 use crate::texts::{WriteFault, print_line};
 use crate::{DEVICE, DONE, REFUSED, end_with, print};
@@ -17,7 +18,6 @@ use er_event::{Command, Items, Name, Refusal};
 use er_paper::{CsvFault, PlayerLine, ShortText, read_players_csv};
 use sqlite::Alter;
 use std::alloc::Global;
-use std::fs::File;
 use std::io::Write;
 
 /// How many bytes a list of players may have.
@@ -76,13 +76,14 @@ fn say_fault<W: Write>(writer: &mut W, fault: CsvFault) -> u8
 }
 
 /// Reads the list of players in a file.
-fn read_list(rt: &HostRuntime, path: &str) -> Result<Vec<u8>, InputFault>
-    ensures { IfOk result (λ list. vec_len list ≤ MAX_LIST_BYTES) }
+fn read_list<H: Host>(alloc: Global, host: &H, path: &str) -> Result<Vec<u8>, InputFault>
+    ensures short { IfOk result (λ list. vec_len list ≤ MAX_LIST_BYTES) }
+    ensures whole { IfOk result (λ list. IfSome ((H.world host.now).list path.now) (λ all. list.items ≡ all)) }
 {
-    let Ok(mut file) = File::open(rt, path) else {
+    let Ok(mut file) = host.open_list(path) else {
         return Err(InputFault::Read);
     };
-    read_whole(rt.alloc(), &mut file, MAX_LIST_BYTES)
+    read_whole(alloc, &mut file, MAX_LIST_BYTES)
 }
 
 /// Whether a refusal says that the player is there already.
@@ -181,8 +182,9 @@ fn import_list<S: Alter, O: Write, E: Write>(
 }
 
 /// Enrols the names of the list in a file. Of a list that can't be read, or has a fault, nobody is enrolled.
-pub fn import<S: Alter, O: Write, E: Write>(
-    rt: &HostRuntime,
+pub fn import<H: Host, S: Alter, O: Write, E: Write>(
+    alloc: Global,
+    host: &H,
     desk: &mut Desk<S>,
     path: &str,
     out: &mut O,
@@ -190,12 +192,12 @@ pub fn import<S: Alter, O: Write, E: Write>(
 ) -> u8
     requires { IsFalse (desk_state desk.old).needs_reopen }
     ensures { AsksSome S.Store desk.old (Imports (prints (O.contents out.old) (O.contents out.new)
-        (E.contents err.old) (E.contents err.new) result)) desk.new }
+        (E.contents err.old) (E.contents err.new) result) ((H.world host.now).list path.now)) desk.new }
 {
     // Where nobody is enrolled, nothing is asked of the file: this tells the proof.
     desk.asks_nothing();
-    match read_list(rt, path) {
-        Ok(list) => import_list(rt.alloc(), desk, &list, out, err),
+    match read_list(alloc, host, path) {
+        Ok(list) => import_list(alloc, desk, &list, out, err),
         Err(InputFault::Memory) => print(out, err, &Told::Refused(Refusal::Memory)),
         Err(InputFault::TooLong | InputFault::Read) => end_with(err, "cannot read\n", DEVICE),
     }

@@ -4,6 +4,7 @@ ghost use Rattle.std.specs.Prelude.{◌≡◌, ℕ, List, IsTrue, None, is_some}
 ghost use Rattle.er_words.specs.Line.{line_of};
 ghost use Rattle.er_cli.specs.Again.{ImportsAgain};
 ghost use Rattle.er_cli.specs.Help.{asks_text, text_for};
+ghost use Rattle.er_cli.specs.Stopped.{StopsAreExits};
 
 use er_rules::laws::names_stay;
 
@@ -14,6 +15,11 @@ pub fn imports_again()
 {
     names_stay();
 }
+
+/// What a crash may leave of a file at any instant it may leave at the exit of a run in which each call from there on fails.
+pub fn stops_are_exits()
+    ensures { StopsAreExits }
+{}
 
 /// Words ask for a text exactly where there is one for them, and no such words are a line.
 pub fn texts_are_asked()

@@ -1,11 +1,11 @@
 //! Command lines over the file of an event, and scripts over one in memory: does what their words ask and prints the answers.
 #![tactic(auto)]
 
-ghost use Rattle.std.specs.Prelude.{List, ◌≡◌, ◌⊎◌, IfOk, IfSome, OnOk, OnErr, None, Some, map, string_bytes};
+ghost use Rattle.std.specs.Prelude.{List, ◌≡◌, ◌⊎◌, IsTrue, IfOk, IfSome, OnOk, OnErr, None, Some, map, string_bytes};
 ghost use Rattle.std.specs.Io.KnownBytes.{Appends};
 ghost use Rattle.er_cli.specs.Texts.{told_text, AppendsPart};
 ghost use Rattle.sqlite_wal.specs.Files.{image_at};
-ghost use Rattle.er_desk.specs.Opening.{IsSpared};
+ghost use Rattle.er_cli.specs.World.{untold};
 ghost use Rattle.er_cli.specs.Complaints.{EndsAsUsage};
 ghost use Rattle.er_cli.specs.Words.{EndsWords, GoesOnWords};
 ghost use Rattle.er_cli.specs.declared.help.TheConstants.{AWAITING};
@@ -21,10 +21,12 @@ mod closing;
 mod complaints;
 mod files;
 mod help;
+mod host;
 mod importing;
 mod input;
 pub mod laws;
 mod left;
+mod opening;
 mod script;
 mod serving;
 mod sessions;
@@ -33,12 +35,14 @@ mod texts;
 
 pub use action::{Action, Task, file_and_action};
 pub use clients::{AcceptFault, Clients, Side, Visit};
+pub use closing::NewLog;
 use complaints::complaint;
 pub use er_answers::{Question, Told, View};
 use er_event::Refusal;
 pub use er_words::{ExportKind, FilePath, Line, LineFault, UsageFault, read_words};
 use files::run_line;
 use help::{AWAITING, print_text, text_for};
+pub use host::{Host, System};
 use input::{InputFault, lines_of, read_script};
 pub use left::{Left, Ran};
 use script::run_lines;
@@ -182,15 +186,15 @@ fn print_usage<O: Write, E: Write>(
 /// Does what the words of a command line ask, and gives the status to end with. The event's file is opened, asked and, once the answer is
 /// written, closed again, so that it holds the event without its log too.
 pub fn run<O: Write, E: Write>(rt: &HostRuntime, words: &[String], out: &mut O, err: &mut E) -> u8
-    ensures { (what : _) × EndsWords ⟦<FileFrom<Wary> as Disk>⟧ IsSpared (image_at ⟦<Wary as Start>⟧)
+    ensures { (what : _) × EndsWords ⟦<FileFrom<Wary> as Disk>⟧ (untold (image_at ⟦<Wary as Start>⟧))
         (map string_bytes words.now) what (prints (O.contents out.old) (O.contents out.new)
         (E.contents err.old) (E.contents err.new) result) }
 {
     run_from(rt, words, Wary, out, err).status
 }
 
-/// The same over any first contents of the file, for which `S` stands. No clause ties it to the path. What is left of the file comes back:
-/// whoever lets it go lets others have the file.
+/// `run_on`, on the system itself: over any first contents of the file, for which `S` stands. No clause ties it to the path. What is left of
+/// the file comes back: whoever lets it go lets others have the file.
 pub fn run_from<S: Start, O: Write, E: Write>(
     rt: &HostRuntime,
     words: &[String],
@@ -198,14 +202,36 @@ pub fn run_from<S: Start, O: Write, E: Write>(
     out: &mut O,
     err: &mut E,
 ) -> Ran<FileFrom<S>>
-    ensures ends { EndsWords ⟦<FileFrom<S> as Disk>⟧ IsSpared (image_at S.Start)
+    ensures goes_on { GoesOnWords ⟦<FileFrom<S> as Disk>⟧ (untold (image_at S.Start))
         (map string_bytes words.now) result.left (prints (O.contents out.old) (O.contents out.new)
         (E.contents err.old) (E.contents err.new) result.status) }
-    // Of a file that a history of a new event left, the history goes on with what is asked of the desk: the one command, the names of a
-    // list, the scores that clients hand in, or nothing. The answer is that of the event at its end; and in what is left of the file the
-    // next command line finds it. Or the answer is one that comes before the file is opened: that it isn't there, or that memory or the
-    // device is wanting. Then nothing is left.
-    ensures goes_on { GoesOnWords ⟦<FileFrom<S> as Disk>⟧ IsSpared (image_at S.Start)
+    ensures ends { EndsWords ⟦<FileFrom<S> as Disk>⟧ (untold (image_at S.Start))
+        (map string_bytes words.now) result.left (prints (O.contents out.old) (O.contents out.new)
+        (E.contents err.old) (E.contents err.new) result.status) }
+{
+    let mut system = System::new(rt, start);
+    run_on(rt.alloc(), &mut system, words, out, err)
+}
+
+/// Does what the words of a command line ask, on any host. What it finds there is what the host's `world` tells, and the file of the event is
+/// opened once.
+pub fn run_on<H: Host, O: Write, E: Write>(
+    alloc: Global,
+    host: &mut H,
+    words: &[String],
+    out: &mut O,
+    err: &mut E,
+) -> Ran<H::File>
+    requires shut { IsTrue (H.is_shut host.old) }
+    // The theorem. Of a file that a history of a new event left, the history goes on with what is asked of the desk: the one command,
+    // enrolments, scores, or nothing. The answer is that of the event at its end; and in what is left of the file the next command line
+    // finds it. `init` makes no other event there. Or the answer is one that comes before the file is opened: that it isn't there, or that
+    // memory or the device is wanting. Then nothing is left.
+    ensures goes_on { GoesOnWords H.File.Disk (H.world host.old)
+        (map string_bytes words.now) result.left (prints (O.contents out.old) (O.contents out.new)
+        (E.contents err.old) (E.contents err.new) result.status) }
+    // What is done and told over a file that may hold anything, and of which list and which clients.
+    ensures ends { EndsWords H.File.Disk (H.world host.old)
         (map string_bytes words.now) result.left (prints (O.contents out.old) (O.contents out.new)
         (E.contents err.old) (E.contents err.new) result.status) }
 {
@@ -215,10 +241,10 @@ pub fn run_from<S: Start, O: Write, E: Write>(
             left: Left::Nothing,
         };
     }
-    match read_words(rt.alloc(), words) {
-        Ok(line) => run_line(rt, line, start, out, err),
+    match read_words(alloc, words) {
+        Ok(line) => run_line(alloc, host, line, out, err),
         Err(LineFault::Usage(fault)) => Ran {
-            status: print_usage(rt.alloc(), words, fault, out, err),
+            status: print_usage(alloc, words, fault, out, err),
             left: Left::Nothing,
         },
         Err(LineFault::Memory) => Ran {

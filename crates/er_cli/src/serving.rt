@@ -1,9 +1,9 @@
-ghost use Rattle.std.specs.Prelude.{◌≡◌, MatchResult, OnOk};
+ghost use Rattle.std.specs.Prelude.{◌≡◌, None, MatchResult, OnOk};
 ghost use Rattle.er_desk.specs.Asking.{AsksSome};
 ghost use Rattle.er_cli.specs.Clients.{KnewBefore, ServesKnown};
 ghost use Rattle.er_cli.specs.declared.TheConstants.{DONE};
 ghost use Rattle.er_cli.specs.Help.{stream};
-ghost use Rattle.er_cli.specs.Serving.{Connects, ConnectsAll, ConnectsUpTo, PrintsServed, PrintsSome, ServesAll};
+ghost use Rattle.er_cli.specs.Serving.{ConnectsMany, ConnectsNext, ConnectsUpTo, PrintsServed, PrintsSome, ServesAll};
 ghost use Rattle.er_cli.specs.inside.Serving.{listening_text, served_text};
 
 use crate::clients::{AcceptFault, Clients, Listening};
@@ -44,17 +44,15 @@ fn serve_next<S: Alter, C: Clients>(
     desk: &mut Desk<S>,
     clients: &mut C,
 ) -> Result<(), AcceptFault>
-    ensures turns { AsksSome S.Store desk.old Connects desk.new }
+    ensures turns { AsksSome S.Store desk.old (ConnectsNext (C.coming clients.old) (C.coming clients.new)) desk.new }
     ensures served { OnOk result
         (ServesKnown S.Store 1 (C.coming clients.old) (C.got clients.old)
         desk.old (C.coming clients.new) (C.got clients.new) desk.new) }
     ensures knew { KnewBefore (C.got clients.old) (C.got clients.new) }
 {
-    // A client without a connection asks nothing of the file: this tells the proof.
+    // If no client can be had, nothing is asked of the file: this tells the proof.
     desk.asks_nothing();
-    let Some(mut visit) = clients.accept()? else {
-        return Ok(());
-    };
+    let mut visit = clients.accept()?;
     let served = serve_one(alloc, routes, desk, &mut visit.reader, &mut visit.writer);
     let is_told = visit.tells(served);
     clients.let_go(visit);
@@ -69,8 +67,8 @@ pub fn serve_clients<S: Alter, C: Clients>(
     clients: &mut C,
     count: u32,
 ) -> Result<(), AcceptFault>
-    ensures turns { MatchResult result (λ _. AsksSome S.Store desk.old (ConnectsAll count) desk.new)
-        (λ _. AsksSome S.Store desk.old (ConnectsUpTo count) desk.new) }
+    ensures turns { MatchResult result (λ _. AsksSome S.Store desk.old (ConnectsMany count (C.coming clients.old)) desk.new)
+        (λ _. AsksSome S.Store desk.old (ConnectsUpTo count (C.coming clients.old)) desk.new) }
     // Of clients of whom it is known what they send, each got its answer, on the event that those before it left.
     ensures served { OnOk result (ServesKnown S.Store count (C.coming clients.old)
         (C.got clients.old) desk.old (C.coming clients.new) (C.got clients.new) desk.new) }
@@ -99,7 +97,7 @@ pub fn serve_all<S: Alter, C: Clients, W: Write>(
     out: &mut W,
 ) -> u8
     // Each client leaves the desk as it was, has it read its standings or a slip, or hands it one score: these scores are the session.
-    ensures turns { AsksSome S.Store desk.old (ServesAll count result) desk.new }
+    ensures turns { AsksSome S.Store desk.old (ServesAll count result (C.coming clients.old)) desk.new }
     ensures printed { PrintsServed port count (stream (W.contents out.old) (W.contents out.new)) result }
     // Where all are served, each of whom it is known what they send got its answer.
     ensures served { result ≡ DONE → ServesKnown S.Store count (C.coming clients.old)
@@ -129,12 +127,15 @@ pub fn serve_on<S: Alter, W: Write>(
     count: u32,
     out: &mut W,
 ) -> u8
-    ensures turns { AsksSome S.Store desk.old (ServesAll count result) desk.new }
+    ensures turns { AsksSome S.Store desk.old (ServesAll count result None) desk.new }
     ensures printed { PrintsSome count (stream (W.contents out.old) (W.contents out.new)) result }
 {
     // Where nobody is served, nothing is asked of the file: this tells the proof.
     desk.asks_nothing();
     let Ok(address) = listener.local_addr() else {
+        return DEVICE;
+    };
+    let Ok(listener) = listener.try_clone() else {
         return DEVICE;
     };
     let mut clients = Listening::new(rt, listener);

@@ -20,9 +20,9 @@ struct Gone {
 
 /// Clients who wait, and what those got who are gone, or None where there was no memory to keep it.
 #[derive(Drop)]
-struct Queue {
+pub struct Queue {
     alloc: Global,
-    coming: VecDeque<VecDeque<u8>>,
+    pub coming: VecDeque<VecDeque<u8>>,
     gone: Option<Vec<Gone>>,
 }
 
@@ -45,17 +45,17 @@ impl Clients for Queue {
     ghost got = { λ queue. option_map (λ gone. map (λ it.
         record { bytes = Some it.bytes.items; failed = it.has_failed }) gone.items) queue.gone };
 
-    fn accept(&mut self) -> Result<Option<Visit<VecDeque<u8>, Vec<u8>>>, AcceptFault>
+    fn accept(&mut self) -> Result<Visit<VecDeque<u8>, Vec<u8>>, AcceptFault>
         ensures comes { MatchResult result
-            (λ given. MatchOption given ⊥ (λ visit. IsNextClient (map (λ input. input.items) self.old.coming.items)
+            (λ visit. IsNextClient (map (λ input. input.items) self.old.coming.items)
             (Some visit.reader.stream.items) (Some visit.writer.stream.items)
             (visit.reader.has_failed || visit.writer.has_failed)
-            (Some (map (λ input. input.items) self.new.coming.items))))
+            (Some (map (λ input. input.items) self.new.coming.items)))
             (λ _. self.new.coming.items ≡ self.old.coming.items) }
         ensures got { self.new.gone ≡ self.old.gone }
     {
         match self.coming.pop_front() {
-            Some(input) => Ok(Some(Visit::new(input, Vec::new(self.alloc)))),
+            Some(input) => Ok(Visit::new(input, Vec::new(self.alloc))),
             None => Err(AcceptFault),
         }
     }
@@ -102,7 +102,7 @@ Connection: close\r
 {\"first\":{\"name\":\"Di\",\"no\":4},\"round\":1,\"score\":{\"a\":2,\"b\":1,\"d\":0},\"second\":{\"name\":\"Bo\",\"no\":2},\"table\":1}";
 
 /// A queue of two clients: one hands in a score, the next one asks for the slip.
-fn two_clients(alloc: Global) -> Option<Queue> {
+pub fn two_clients(alloc: Global) -> Option<Queue> {
     let mut coming = VecDeque::new(alloc);
     for request in [POST, GET] {
         let mut bytes: VecDeque<u8> = VecDeque::new(alloc);

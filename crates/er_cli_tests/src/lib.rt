@@ -7,6 +7,8 @@ mod clients;
 #[cfg(test)]
 mod flushing;
 #[cfg(test)]
+mod hosts;
+#[cfg(test)]
 mod lines;
 #[cfg(test)]
 mod sessions;

@@ -1,9 +1,7 @@
 -- An event that is made in a file.
-use Rattle.std.specs.Prelude.{◌≡◌, ◌⊎◌, ℕ, List, Option, Result, Err, MatchResult}
+use Rattle.std.specs.Prelude.{◌≡◌, ◌⊎◌, ℕ, List, Result, Err, MatchResult}
 use Rattle.sqlite_disk.specs.declared.Disk.{Ghosts}
 use Rattle.sqlite_store.specs.declared.store.FileStore.{FileStore}
-use Rattle.sqlite.specs.declared.error.Error.{Error}
-use Rattle.sqlite.specs.declared.file.Leftover.{Leftover}
 use Rattle.sqlite.specs.Files.{over_files}
 use Rattle.sqlite_wal.specs.Recovery.{Image}
 use Rattle.er_event.specs.declared.refusals.Refusal.TheVariants.{BadSetup}
@@ -16,9 +14,9 @@ use Rattle.er_cli.specs.declared.left.Left.TheVariants.{Nothing}
 use Rattle.er_cli.specs.declared.left.NoDesk.{NoDesk}
 
 -- there is a desk over it, or why there is none, and what is left then
-abbrev pub InitReplies : {D : Type 0} (g : Ghosts D) → (Error → Option (Leftover D g) → Type 0) → Image → List ℕ → ℕ → ℕ
+abbrev pub InitReplies : {D : Type 0} (g : Ghosts D) → Image → List ℕ → ℕ → ℕ
     → Result (Desk (FileStore D g) over_files) (NoDesk D g) → Type 0
-InitReplies g Spares image name rounds cut made =
+InitReplies g image name rounds cut made =
     (IsSetUp name rounds cut × MatchResult made (HasMade image name rounds cut)
-    (λ it. HasMadeNone Spares image (new_point name rounds cut) it.why it.left))
+    (λ it. HasMadeNone image (new_point name rounds cut) it.why it.left))
     ⊎ ((IsSetUp name rounds cut → ⊥) × (made ≡ Err (record { why = BadSetup; left = Nothing })))

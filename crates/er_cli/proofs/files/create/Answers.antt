@@ -2,7 +2,8 @@ use Rattle.er_cli.proofs.Making.{not_made}
 use Rattle.er_cli.proofs.files.create.Goals as goal
 
 pub returns : goal.returns
-returns g c = not_made _ _ _ c.in-Err.fault c.clear_fault.result.why c.clear_fault.result.left c.clear_fault.ensures.why
+returns g c = not_made c.next_sessions.ensures _ _ c.in-Err.fault c.clear_fault.result.why c.clear_fault.result.left c.clear_fault.ensures.why
     c.clear_fault.ensures.left
-    c.in-Err.ensures.makes.why c.in-Err.ensures.makes.unopened c.in-Err.ensures.makes.crash c.in-Err.ensures.makes.beside_crash
-    c.in-Err.ensures.spared
+    c.in-Err.ensures.makes.why c.in-Err.ensures.makes.unopened c.in-Err.ensures.makes.exists c.in-Err.ensures.makes.spares
+    c.in-Err.ensures.makes.crash c.in-Err.ensures.makes.beside_crash
+    c.in-Err.ensures.makes.spared

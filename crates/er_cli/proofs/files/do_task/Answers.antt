@@ -13,7 +13,7 @@ returns-in-Ask g c = rw c.in-Ask.is (record {
 pub returns-in-Import : goal.returns-in-Import
 returns-in-Import g c =
     let it = c.import.ensures in
-    rw c.in-Import.is (record { done = Commands it.0; told = (it.0, refl, it.1); file = it.2 })
+    rw c.in-Import.is (record { done = Commands it.0; told = (it.0, refl, rw c.as_str.ensures at it.1); file = it.2 })
 
 pub returns-in-Serve : goal.returns-in-Serve
 returns-in-Serve g c =

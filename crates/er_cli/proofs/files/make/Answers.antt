@@ -7,7 +7,7 @@ use Rattle.er_cli.proofs.files.make.Goals as goal
 pub returns-in-Ok : goal.returns-in-Ok
 returns-in-Ok g c =
     let told = c.print_made.ensures in
-    let it = made_so _ _ _ _ _ _ c.init.result c.in-Ok.desk c.in-Ok.is c.init.ensures in
+    let it = made_so _ _ _ _ _ c.init.result c.in-Ok.desk c.in-Ok.is c.init.ensures in
     let begins = made_begins c.next_sessions.ensures _ _ _ _ _ c.in-Ok.desk it.0 it.1 told.asks c.print_made.result.left told.put_away in
     record {
       done = Accepted (receipt 0);
@@ -19,5 +19,5 @@ pub returns-in-Err : goal.returns-in-Err
 returns-in-Err g c = record {
   done = Refused c.in-Err.why.why;
   told = c.tell_no_desk.ensures.told;
-  file = rw c.tell_no_desk.ensures.left (makes_none _ _ _ _ _ _ c.init.result c.in-Err.why c.in-Err.is c.init.ensures);
+  file = rw c.tell_no_desk.ensures.left (makes_none _ _ _ _ _ c.init.result c.in-Err.why c.in-Err.is c.init.ensures);
 }

@@ -17,7 +17,7 @@ returns-in-Err-clause-printed g c = count_in_part c.args.port c.args.count _ _ _
 -- ---- the clients
 
 pub returns-in_default-clause-turns : goal.returns-in_default-clause-turns
-returns-in_default-clause-turns g c = (_, inr (refl, (0, omega arith, (refl, refl))), c.asks_nothing.ensures)
+returns-in_default-clause-turns g c = (_, inr (refl, (0, omega arith, (_, (refl, refl, refl)))), c.asks_nothing.ensures)
 
 pub returns-in_default-serve_clients-clause-turns : goal.returns-in_default-serve_clients-clause-turns
 returns-in_default-serve_clients-clause-turns g c = let it = c.in_default-serve_clients.ensures.turns in (it.0, inr (refl, it.1), it.2)

@@ -7,8 +7,9 @@ use Rattle.er_cli.proofs.serving.serve_clients.Goals as goal
 pub loop-init : goal.loop-init
 loop-init g c = record {
   within = omega arith;
-  turns = (_, (refl, refl), c.asks_nothing.ensures);
-  served = known_none g.S.Store c.args.desk.now (g.C.Clients.coming c.args.clients.now) (g.C.Clients.got c.args.clients.now);
+  turns = (_, (refl, refl, refl), c.asks_nothing.ensures);
+  served = known_none g.S.Store c.args.desk.now (g.C.Clients.coming c.args.clients.now) (g.C.Clients.got c.args.clients.now)
+      c.asks_nothing.ensures;
   knew = knew_same (g.C.Clients.got c.args.clients.now);
 }
 
@@ -23,10 +24,11 @@ loop-preserved g c =
       within = omega (arith, c.loop-test.true);
       turns = (
         join_sessions before.0 one.0,
-        connects_more c.loop.counter (desk_state first) before.0 (desk_state old) one.0 (desk_state new) before.1 one.1,
+        connects_more c.loop.counter (g.C.Clients.coming c.args.clients.now) (g.C.Clients.coming c.loop.clients)
+            (g.C.Clients.coming c.serve_next.new.clients) (desk_state first) before.0 (desk_state old) one.0 (desk_state new) before.1 one.1,
         c.asks_then.ensures first old new before.0 one.0 before.2 one.2,
       );
-      served = known_then g.S.Store first old new before.0 one.0 before.2 one.2 c.loop.counter (g.C.Clients.coming c.args.clients.now)
+      served = known_then g.S.Store c.asks_then.ensures first old new c.loop.counter (g.C.Clients.coming c.args.clients.now)
           (g.C.Clients.coming c.loop.clients) (g.C.Clients.coming c.serve_next.new.clients) (g.C.Clients.got c.args.clients.now)
           (g.C.Clients.got c.loop.clients) (g.C.Clients.got c.serve_next.new.clients) c.loop.invariant.served c.in-Ok.ensures.knew
           c.in-Ok.ensures.served;
@@ -46,7 +48,12 @@ returns-in_default-clause-turns g c =
       (
         c.loop.counter + 1,
         omega (arith, c.loop-test.true),
-        connects_more c.loop.counter (desk_state first) before.0 (desk_state old) one.0 (desk_state new) before.1 one.1,
+        (
+          _,
+          connects_more c.loop.counter (g.C.Clients.coming c.args.clients.now) (g.C.Clients.coming c.loop.clients)
+              (g.C.Clients.coming c.serve_next.new.clients) (desk_state first) before.0 (desk_state old) one.0 (desk_state new) before.1
+              one.1,
+        ),
       ),
       c.asks_then.ensures first old new before.0 one.0 before.2 one.2,
     )
@@ -54,8 +61,15 @@ returns-in_default-clause-turns g c =
 pub returns-clause-turns : goal.returns-clause-turns
 returns-clause-turns g c =
     let it = c.loop.invariant.turns in
-    let all : c.loop.counter ≡ c.args.count = omega (arith, c.loop.invariant.within, c.loop-test.false) in
-    (it.0, subst (λ (n : ℕ). ConnectsAll n (desk_state c.args.desk.now) it.0 (desk_state c.loop.desk)) all it.1, it.2)
+    let all : c.loop.counter ≡ c.args.count = omega (arith, c.loop.invariant.within, c.loop-test.false) in (
+      it.0,
+      (
+        _,
+        subst (λ (n : ℕ). ConnectsAll n (g.C.Clients.coming c.args.clients.now) (g.C.Clients.coming c.loop.clients)
+            (desk_state c.args.desk.now) it.0 (desk_state c.loop.desk)) all it.1,
+      ),
+      it.2,
+    )
 
 pub returns-clause-served : goal.returns-clause-served
 returns-clause-served g c =

@@ -1,0 +1,121 @@
+//! What a command line needs of the system that it runs on, and that system itself.
+ghost use Rattle.std.specs.Prelude.{◌≡◌, ◌≤◌, Bool, true, false, Option, Some, None, IsTrue, IfOk, IfSome, is_some};
+ghost use Rattle.sqlite_wal.specs.Files.{image_at};
+ghost use Rattle.er_desk.specs.Opening.{OpensImage};
+ghost use Rattle.er_cli.specs.World.{World, KeepsListsAndClients, untold};
+
+use crate::clients::{Clients, Listening};
+use crate::closing::{NewLog, log_to_make, remove_empty};
+use er_desk::{Opened, open_files};
+use sqlite::{FileFrom, Start};
+use sqlite_disk::Disk;
+use std::fs::{self, File};
+use std::io::{self, Read};
+use std::net::{Ipv4Addr, TcpListener};
+
+/// Where a command line runs. Whoever is proved for every host relies on nothing of it but what `world` tells.
+pub trait Host {
+    /// One of the two files that hold an event.
+    type File: Disk + Drop;
+
+    /// A list that is read.
+    type List: Read + Drop;
+
+    /// Who comes to a port.
+    type Visitors: Clients + Drop;
+
+    /// What is there.
+    ghost world: { Self → World };
+
+    /// No file of an event was opened yet. One is, at most.
+    ghost is_shut: { Self → Bool };
+
+    /// Whether a file is there.
+    fn is_there(&self, path: &str) -> io::Result<bool>
+        ensures { IfOk result (λ is_there. IfSome ((world self.now).is_there path.now) (λ known. is_there ≡ known)) };
+
+    /// The log that an opening will make beside a file. None where one is there already, or where that can't be told.
+    fn log_to_make(&self, path: &str) -> Option<NewLog>;
+
+    /// Opens the file of an event, or makes it.
+    fn open(&mut self, path: &str) -> Opened<Self::File>
+        requires shut { IsTrue (is_shut self.old) }
+        ensures opens { OpensImage ((world self.old).image path.now) result }
+        ensures is_open { is_shut self.new ≡ false }
+        ensures others { KeepsListsAndClients (world self.old) (world self.new) };
+
+    /// Opens a list.
+    fn open_list(&self, path: &str) -> io::Result<Self::List>
+        ensures { IfOk result (λ list. Self.List.remaining list ≡ (world self.now).list path.now) };
+
+    /// Listens at a port of this machine alone, or at one that is free, and says which.
+    fn listen(&mut self, port: u16) -> io::Result<(Self::Visitors, u16)>
+        ensures port { IfOk result (λ it. it.1 ≤ 65535) }
+        ensures coming { IfOk result (λ it. Self.Visitors.coming it.0 ≡ (world self.old).coming port) };
+
+    /// Removes a log that an opening has made, where nothing is in it. Whoever calls still holds the file, so that nobody else writes it.
+    fn remove_empty(&mut self, log: &NewLog)
+        requires { is_shut self.old ≡ false }
+        ensures { is_shut self.new ≡ false };
+}
+
+/// The system itself. Nothing is known of it: `S` stands for what the file holds, whichever is opened.
+#[derive(Drop)]
+pub struct System<'a, S: Start> {
+    rt: &'a HostRuntime,
+    start: Option<S>,
+}
+
+impl<'a, S: Start> System<'a, S> {
+    pub fn new(rt: &'a HostRuntime, start: S) -> System<'a, S>
+        ensures { is_some result.start ≡ true }
+    {
+        System {
+            rt,
+            start: Some(start),
+        }
+    }
+}
+
+impl<'a, S: Start> Host for System<'a, S> {
+    type File = FileFrom<S>;
+
+    type List = File;
+
+    type Visitors = Listening<'a>;
+
+    ghost world = { λ _. untold (image_at S.Start) };
+
+    ghost is_shut = { λ system. is_some system.start };
+
+    fn is_there(&self, path: &str) -> io::Result<bool> {
+        fs::exists(self.rt, path)
+    }
+
+    fn log_to_make(&self, path: &str) -> Option<NewLog> {
+        log_to_make(self.rt, path)
+    }
+
+    fn open(&mut self, path: &str) -> Opened<FileFrom<S>> {
+        let Some(start) = self.start.take() else {
+            unreachable!()
+        };
+        open_files(self.rt, path, start)
+    }
+
+    fn open_list(&self, path: &str) -> io::Result<File> {
+        File::open(self.rt, path)
+    }
+
+    fn listen(&mut self, port: u16) -> io::Result<(Listening<'a>, u16)> {
+        let listener = TcpListener::bind(self.rt, (Ipv4Addr::LOCALHOST, port))?;
+        let at = listener.local_addr()?.port();
+        Ok((Listening::new(self.rt, listener), at))
+    }
+
+    fn remove_empty(&mut self, log: &NewLog)
+        ensures { self.new ≡ self.old }
+    {
+        remove_empty(self.rt, log)
+    }
+}

@@ -1,0 +1,170 @@
+//! Whole command lines over a host in memory.
+ghost use Rattle.std.specs.Prelude.{◌≡◌, ℕ, List, [], Option, Some, None, is_some};
+ghost use Rattle.er_cli.specs.World.{World};
+ghost use Rattle.er_cli_tests.specs.Room.{room_coming, room_image};
+
+use crate::clients::{Queue, two_clients};
+use er_cli::{Host, Left, NewLog, Ran, run_on};
+use er_desk::Opened;
+use sqlite::{Connection, Error, ErrorCode, Files, Options};
+use sqlite_disk::{Disk, Memory};
+use std::alloc::Global;
+use std::collections::VecDeque;
+use std::io::{self, ErrorKind, Write};
+use std::test::Fail;
+
+/// One file, one list and one queue of clients, whatever the path or the port.
+#[derive(Drop)]
+struct Room {
+    alloc: Global,
+    files: Option<Files<Memory>>,
+    is_there: bool,
+    list: Vec<u8>,
+    visitors: Option<Queue>,
+}
+
+impl Host for Room {
+    type File = Memory;
+
+    type List = VecDeque<u8>;
+
+    type Visitors = Queue;
+
+    ghost world = { λ room. record {
+      image = λ _. room_image room.files;
+      is_there = λ _. Some room.is_there;
+      list = λ _. Some room.list.items;
+      coming = λ _. room_coming room.visitors;
+    } };
+
+    ghost is_shut = { λ room. is_some room.files };
+
+    fn is_there(&self, _path: &str) -> io::Result<bool> {
+        Ok(self.is_there)
+    }
+
+    fn log_to_make(&self, _path: &str) -> Option<NewLog> {
+        None
+    }
+
+    fn open(&mut self, _path: &str) -> Opened<Memory> {
+        let Some(files) = self.files.take() else {
+            unreachable!()
+        };
+        if !files.log.may_be_used() || !files.db.may_be_used() {
+            return Err((Error::SqliteFailure(ErrorCode::CannotOpen), None));
+        }
+        match Connection::open_files(self.alloc, files, Options::new(7)) {
+            Ok(conn) => Ok(conn),
+            Err((error, left)) => Err((error, Some(left))),
+        }
+    }
+
+    fn open_list(&self, _path: &str) -> io::Result<VecDeque<u8>> {
+        let mut bytes = VecDeque::new(self.alloc);
+        bytes.write_all(&self.list)?;
+        Ok(bytes)
+    }
+
+    fn listen(&mut self, _port: u16) -> io::Result<(Queue, u16)> {
+        match self.visitors.take() {
+            Some(queue) => Ok((queue, 4000)),
+            None => Err(ErrorKind::AddrInUse.into()),
+        }
+    }
+
+    fn remove_empty(&mut self, _log: &NewLog)
+        ensures { self.new ≡ self.old }
+    {}
+}
+
+/// The words of a line.
+fn words(alloc: Global, line: &str) -> Option<Vec<String>> {
+    let mut words = Vec::new(alloc);
+    for word in line.split(' ') {
+        words.push(String::from_str(alloc, word).ok()?).ok()?;
+    }
+    Some(words)
+}
+
+/// The files that a command line leaves, where it ends well and prints this and no error.
+fn left_by(
+    alloc: Global,
+    files: Files<Memory>,
+    is_there: bool,
+    line: &str,
+    answer: &str,
+) -> Option<Files<Memory>> {
+    let mut room = Room {
+        alloc,
+        files: Some(files),
+        is_there,
+        list: Vec::from_slice(alloc, b"name\nAna\nBo\n").ok()?,
+        visitors: two_clients(alloc),
+    };
+    let (mut out, mut err) = (Vec::new(alloc), Vec::new(alloc));
+    let words = words(alloc, line)?;
+    let Ran { status, left } = run_on(alloc, &mut room, words.as_slice(), &mut out, &mut err);
+    if status != 0 || out.as_slice() != answer.as_bytes() || !err.is_empty() {
+        return None;
+    }
+    match left {
+        Left::Closed(files) => Some(files),
+        _ => None,
+    }
+}
+
+/// Whether each of the lines is answered so, over the files that the one before it left.
+fn are_answered(alloc: Global) -> Option<bool> {
+    let mut files = Files {
+        log: Memory::new(alloc),
+        db: Memory::new(alloc),
+    };
+    let mut is_there = false;
+    for (line, answer) in [
+        ("init friday.event Friday 3 0", "ok 0\n"),
+        ("import friday.event players.csv", "added 2 already 0\n"),
+        ("enrol friday.event Cy", "ok 3\n"),
+        ("import friday.event players.csv", "added 0 already 2\n"),
+        (
+            "export friday.event players",
+            "no,name,dropped\n1,Ana,0\n2,Bo,0\n3,Cy,0\n",
+        ),
+        ("enrol friday.event Di", "ok 4\n"),
+        ("start friday.event", "ok 5\n"),
+        (
+            "pair friday.event 1 000000000000000000000000000000000000000000000000000000000000002a",
+            "ok 6\n",
+        ),
+        ("serve friday.event 0 2", "listening 4000\nserved 2\n"),
+    ] {
+        files = left_by(alloc, files, is_there, line, answer)?;
+        is_there = true;
+    }
+    Some(true)
+}
+
+/// Whether a line over a file that isn't there leaves nothing, and says so.
+fn is_absent(alloc: Global) -> Option<bool> {
+    let mut room = Room {
+        alloc,
+        files: Some(Files {
+            log: Memory::new(alloc),
+            db: Memory::new(alloc),
+        }),
+        is_there: false,
+        list: Vec::new(alloc),
+        visitors: None,
+    };
+    let (mut out, mut err) = (Vec::new(alloc), Vec::new(alloc));
+    let words = words(alloc, "start friday.event")?;
+    let Ran { status, left } = run_on(alloc, &mut room, words.as_slice(), &mut out, &mut err);
+    Some(status == 1 && out.is_empty() && room.files.is_some() && matches!(left, Left::Nothing))
+}
+
+#[test]
+fn lines_over_memory_are_answered(rt: HostRuntime) -> Result<(), Fail> {
+    assert_eq!(rt; are_answered(rt.alloc()), Some(true));
+    assert_eq!(rt; is_absent(rt.alloc()), Some(true));
+    Ok(())
+}
