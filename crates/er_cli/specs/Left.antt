@@ -41,6 +41,14 @@ module _ {D : Type 0} {d : disk.Ghosts D} where
   RecoversSuch Such (left.Unclosed store) = IsClean (view store) → (trees : Trees) → recovers store trees → Such trees
   RecoversSuch Such (left.Unopened rest) = Unit {0}
 
+  -- Its log can go. It was closed, and then the database file holds all that a crash may leave of the two. Or it could not be opened, and what
+  -- may be in the log is of that opening.
+  abbrev pub NeedsNoLog : Left D d → Type 0
+  NeedsNoLog left.Nothing = ⊥
+  NeedsNoLog (left.Closed files) = AreClean d files.log files.db → HoldSuch d (λ trees. Unit {0}) files
+  NeedsNoLog (left.Unclosed store) = ⊥
+  NeedsNoLog (left.Unopened rest) = Unit {0}
+
   -- a file was opened, and its disk is clean
   abbrev pub WasOpenedClean : Left D d → Type 0
   WasOpenedClean left.Nothing = ⊥

@@ -1,4 +1,4 @@
-ghost use Rattle.std.specs.Prelude.{◌≡◌, false, ◌<◌, ◌↔◌, IsTrue, IfErr, IfOk, if◌then◌else◌, Some, None, MatchOption};
+ghost use Rattle.std.specs.Prelude.{◌≡◌, ◌<◌, ◌↔◌, IsTrue, IfErr, IfOk, if◌then◌else◌, Some, None, MatchOption};
 ghost use Rattle.sqlite_disk.specs.Disk.{Cut, Follows};
 ghost use Rattle.sqlite_wal.specs.Reads.{IsClean};
 ghost use Rattle.sqlite_store.specs.FileStore.{state as store_state};
@@ -157,7 +157,6 @@ fn clear_refused<H: Host>(
     conn: Connection<FileStore<H::File>>,
     log: Option<&NewLog>,
 ) -> Left<H::File>
-    requires { H.is_shut host.old ≡ false }
     ensures { ClosesFile (file_state conn) result }
 {
     let Some(log) = log else {
@@ -165,7 +164,7 @@ fn clear_refused<H: Host>(
     };
     let left = close(conn);
     if let Left::Closed(_files) = &left {
-        host.remove_empty(log);
+        host.remove_empty(log, &left);
     }
     left
 }
@@ -177,18 +176,18 @@ fn clear_unopened<H: Host>(
     left: Option<Leftover<H::File>>,
     log: Option<&NewLog>,
 ) -> Left<H::File>
-    requires { H.is_shut host.old ≡ false }
     ensures { MatchOption left (result ≡ Left.Nothing) (λ rest. result ≡ Left.Unopened rest) }
 {
     let Some(rest) = left else {
         return Left::Nothing;
     };
+    let left = Left::Unopened(rest);
     if let Some(log) = log
         && !log.is_beside_nothing
     {
-        host.remove_empty(log);
+        host.remove_empty(log, &left);
     }
-    Left::Unopened(rest)
+    left
 }
 
 /// The same of an opening of an event, and says why it was refused.
@@ -197,7 +196,6 @@ pub fn clear_fault<H: Host>(
     fault: OpenFault<H::File>,
     log: Option<&NewLog>,
 ) -> NoDesk<H::File>
-    requires { H.is_shut host.old ≡ false }
     ensures why { result.why ≡ why_of fault }
     ensures left { IsClearedOf fault result.left }
 {

@@ -2,10 +2,12 @@
 ghost use Rattle.std.specs.Prelude.{◌≡◌, ◌≤◌, Bool, true, false, Option, Some, None, IsTrue, IfOk, IfSome, is_some};
 ghost use Rattle.sqlite_wal.specs.Files.{image_at};
 ghost use Rattle.er_desk.specs.Opening.{OpensImage};
+ghost use Rattle.er_cli.specs.Left.{NeedsNoLog};
 ghost use Rattle.er_cli.specs.World.{World, KeepsListsAndClients, untold};
 
 use crate::clients::{Clients, Listening};
 use crate::closing::{NewLog, log_to_make, remove_empty};
+use crate::left::Left;
 use er_desk::{Opened, open_files};
 use sqlite::{FileFrom, Start};
 use sqlite_disk::Disk;
@@ -53,10 +55,10 @@ pub trait Host {
         ensures port { IfOk result (λ it. it.1 ≤ 65535) }
         ensures coming { IfOk result (λ it. Self.Visitors.coming it.0 ≡ (world self.old).coming port) };
 
-    /// Removes a log that an opening has made, where nothing is in it. Whoever calls still holds the file, so that nobody else writes it.
-    fn remove_empty(&mut self, log: &NewLog)
-        requires { is_shut self.old ≡ false }
-        ensures { is_shut self.new ≡ false };
+    /// Removes a log that the opening has made, if nothing is in it. What is left of the file needs no log, and whoever calls still holds it, so
+    /// that nobody else writes it.
+    fn remove_empty(&mut self, log: &NewLog, left: &Left<Self::File>)
+        requires { NeedsNoLog left.now };
 }
 
 /// The system itself. Nothing is known of it: `S` stands for what the file holds, whichever is opened.
@@ -113,7 +115,7 @@ impl<'a, S: Start> Host for System<'a, S> {
         Ok((Listening::new(self.rt, listener), at))
     }
 
-    fn remove_empty(&mut self, log: &NewLog)
+    fn remove_empty(&mut self, log: &NewLog, _left: &Left<FileFrom<S>>)
         ensures { self.new ≡ self.old }
     {
         remove_empty(self.rt, log)

@@ -73,7 +73,7 @@ impl Host for Room {
         }
     }
 
-    fn remove_empty(&mut self, _log: &NewLog)
+    fn remove_empty(&mut self, _log: &NewLog, _left: &Left<Memory>)
         ensures { self.new ≡ self.old }
     {}
 }
