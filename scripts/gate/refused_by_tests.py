@@ -21,7 +21,7 @@ WHOLE_EVENT, PAIRING = "stops::a_whole_event_survives_each_stop", "stops::a_pair
 ADOPTED = "desks::a_desk_answers_and_is_adopted"
 SERVED, GOES_ON = "sockets::clients_are_served", "sessions::sessions_go_on"
 LINES = "lines::each_line_is_one_command"
-ANSWERED = "flushing::an_answer_is_flushed"
+ANSWERED, SCRIPT = "flushing::an_answer_is_flushed", "flushing::a_script_flushes"
 SCORE, SHORT = "requests::a_score_is_taken_once", "requests::requests_that_change_nothing_are_answered"
 # where a wrong body stands, and the tests of one crate each of which sees it
 BODIES = {
@@ -37,8 +37,7 @@ BODIES = {
     "er_cli/refused-by-tests/run_twice": (CLI_TESTS, [LINES]),
     "er_cli/refused-by-tests/paths_are_absent": (CLI_TESTS, [LINES]),
     "er_cli/refused-by-tests/hangs_up": (CLI_TESTS, [SERVED]),
-    "er_cli/refused-by-tests/line_is_held_back": (CLI_TESTS, [SERVED]),
-    "er_cli/refused-by-tests/answer_is_held_back": (CLI_TESTS, [ANSWERED]),
+    "er_cli/refused-by-tests/print_is_held_back": (CLI_TESTS, [SERVED, ANSWERED, SCRIPT]),
 }
 # with this one the test does not end, so that the limit of so many seconds is its refusal, as it is of no other
 ENDLESS, ENDLESS_SECONDS = "er_cli/refused-by-tests/waits_for_ever", 60

@@ -1,4 +1,4 @@
--- What went out, and what came to be printed where a write or the flush failed.
+-- What went out, and what came to be printed if a write or a flush failed.
 use Rattle.std.proofs.Common.{◌≡◌, ℕ, ◌+◌, ◌-◌, ◌≤◌, nat_le, Bool, true, false, List, ◌++◌, take, drop, length, Option, Result, Ok, Err}
 use Rattle.std.proofs.{Common.{OnErr, refl, sym, ap, subst, ◌∙◌, arith, length-drop}, lemmas.List.{take_all, take-append-le}}
 use Rattle.std.proofs.{lemmas.Bool.Decides.nat_tests, Math.Seq.{take-add, take-append-add, take-append_seam}, KnownBytes.Appends-trans}

@@ -17,7 +17,7 @@ pub record RunsScript (input before after : Option (List ℕ)) : Type 0 where
   pub small : length script ≤ MAX_SCRIPT_BYTES
   pub prints : Prints (lines_of script) before after
 
--- the whole input was read as a script, and a write or the flush failed
+-- the whole input was read as a script, and a write or a flush failed
 pub record RunsScriptPart (input before after : Option (List ℕ)) : Type 0 where
   pub script : List ℕ
   pub whole : IfSome input (λ all. script ≡ all)
@@ -28,7 +28,7 @@ pub record RunsScriptPart (input before after : Option (List ℕ)) : Type 0 wher
 abbrev pub IsTooLong : Option (List ℕ) → Type 0
 IsTooLong input = IfSome input (λ all. MAX_SCRIPT_BYTES < length all)
 
--- A read, a write or the flush failed. What was printed is nothing, or a beginning of what is due.
+-- A read, a write or a flush failed. What was printed is nothing, or a beginning of what is due.
 abbrev pub Breaks : (input before after : Option (List ℕ)) → Type 0
 Breaks input before after =
     Keeps before after

@@ -28,6 +28,7 @@ use crate::left::{Left, NoDesk, Ran};
 use crate::opening::{create_desk, open_desk};
 use crate::serving::serve_all;
 use crate::setup::set_up;
+use crate::texts::Print;
 use crate::{DEVICE, end_with, print};
 use er_answers::{Told, ask};
 use er_desk::Desk;
@@ -38,7 +39,6 @@ use er_words::Line;
 use sqlite::{Alter, FileStore};
 use sqlite_disk::Disk;
 use std::alloc::Global;
-use std::io::Write;
 
 /// Sees whether a file is there. One that isn't has no event, and isn't made.
 fn find_file<H: Host>(host: &H, path: &str) -> Result<(), Refusal>
@@ -101,7 +101,7 @@ fn init<H: Host>(
 }
 
 /// Tells that an event was made, and closes its file once that is written.
-fn print_made<D: Disk + Drop, O: Write, E: Write>(
+fn print_made<D: Disk + Drop, O: Print, E: Print>(
     desk: Desk<FileStore<D>>,
     out: &mut O,
     err: &mut E,
@@ -109,8 +109,8 @@ fn print_made<D: Disk + Drop, O: Write, E: Write>(
     ensures put_away { ClosesFile (state over_files desk) result.left }
     ensures asks { Asks over_files desk no_session desk }
     ensures told { Tells (Told.Accepted (receipt 0))
-        (prints (O.contents out.old) (O.contents out.new)
-        (E.contents err.old) (E.contents err.new) result.status) }
+        (prints (O.printed out.old) (O.printed out.new)
+        (E.printed err.old) (E.printed err.new) result.status) }
 {
     // A desk that is only looked at asks nothing of its file: this tells the proof.
     desk.asks_nothing();
@@ -122,7 +122,7 @@ fn print_made<D: Disk + Drop, O: Write, E: Write>(
 }
 
 /// Makes an event, and tells so or why not.
-fn make<H: Host, O: Write, E: Write>(
+fn make<H: Host, O: Print, E: Print>(
     alloc: Global,
     host: &mut H,
     path: &str,
@@ -134,8 +134,8 @@ fn make<H: Host, O: Write, E: Write>(
 ) -> Ran<H::File>
     requires shut { IsTrue (H.is_shut host.old) }
     ensures { EndsLine H.File.Disk (H.world host.old) path.now result.left
-        (prints (O.contents out.old) (O.contents out.new)
-        (E.contents err.old) (E.contents err.new) result.status) (Init name.now rounds cut) }
+        (prints (O.printed out.old) (O.printed out.new)
+        (E.printed err.old) (E.printed err.new) result.status) (Init name.now rounds cut) }
 {
     // What is begun here is the history that the next command line goes on with: this tells the proof.
     next_sessions();
@@ -146,7 +146,7 @@ fn make<H: Host, O: Write, E: Write>(
 }
 
 /// Serves the clients of a desk, on this machine alone.
-fn listen<H: Host, S: Alter, O: Write, E: Write>(
+fn listen<H: Host, S: Alter, O: Print, E: Print>(
     alloc: Global,
     host: &mut H,
     desk: &mut Desk<S>,
@@ -156,8 +156,8 @@ fn listen<H: Host, S: Alter, O: Write, E: Write>(
     err: &mut E,
 ) -> u8
     ensures { AsksSome S.Store desk.old
-        (ServesClients (prints (O.contents out.old) (O.contents out.new)
-        (E.contents err.old) (E.contents err.new) result) count ((H.world host.old).coming port)) desk.new }
+        (ServesClients (prints (O.printed out.old) (O.printed out.new)
+        (E.printed err.old) (E.printed err.new) result) count ((H.world host.old).coming port)) desk.new }
 {
     // Where nobody is listened to, nothing is asked of the file: this tells the proof.
     desk.asks_nothing();
@@ -174,7 +174,7 @@ fn listen<H: Host, S: Alter, O: Write, E: Write>(
 }
 
 /// Does what an event was opened for.
-fn do_task<H: Host, S: Alter, O: Write, E: Write>(
+fn do_task<H: Host, S: Alter, O: Print, E: Print>(
     alloc: Global,
     host: &mut H,
     desk: &mut Desk<S>,
@@ -185,8 +185,8 @@ fn do_task<H: Host, S: Alter, O: Write, E: Write>(
     requires sound { IsSound desk.old.event }
     requires low { desk.old.serial ≤ MAX_SERIAL }
     requires ready { IsFalse (desk_state desk.old).needs_reopen }
-    ensures { Does S.Store (H.world host.old) desk.old task desk.new (prints (O.contents out.old) (O.contents out.new)
-        (E.contents err.old) (E.contents err.new) result) }
+    ensures { Does S.Store (H.world host.old) desk.old task desk.new (prints (O.printed out.old) (O.printed out.new)
+        (E.printed err.old) (E.printed err.new) result) }
 {
     match task {
         Task::Ask { question } => print(out, err, &ask(alloc, desk, question)),
@@ -196,7 +196,7 @@ fn do_task<H: Host, S: Alter, O: Write, E: Write>(
 }
 
 /// Does it with the desk of a file, and closes that once the answer is written.
-fn do_and_close<H: Host, O: Write, E: Write>(
+fn do_and_close<H: Host, O: Print, E: Print>(
     alloc: Global,
     host: &mut H,
     mut desk: Desk<FileStore<H::File>>,
@@ -207,8 +207,8 @@ fn do_and_close<H: Host, O: Write, E: Write>(
     requires sound { IsSound desk.event }
     requires low { desk.serial ≤ MAX_SERIAL }
     requires ready { IsFalse (desk_state desk).needs_reopen }
-    ensures { (last : _) × Does over_files (H.world host.old) desk task last (prints (O.contents out.old)
-        (O.contents out.new) (E.contents err.old) (E.contents err.new) result.status)
+    ensures { (last : _) × Does over_files (H.world host.old) desk task last (prints (O.printed out.old)
+        (O.printed out.new) (E.printed err.old) (E.printed err.new) result.status)
         × ClosesFile (state over_files last) result.left }
 {
     let status = do_task(alloc, host, &mut desk, task, out, err);
@@ -219,22 +219,22 @@ fn do_and_close<H: Host, O: Write, E: Write>(
 }
 
 /// Tells why a file was not opened.
-fn tell_refusal<O: Write, E: Write>(out: &mut O, err: &mut E, why: Refusal) -> u8
-    ensures { Tells (Told.Refused why) (prints (O.contents out.old) (O.contents out.new)
-        (E.contents err.old) (E.contents err.new) result) }
+fn tell_refusal<O: Print, E: Print>(out: &mut O, err: &mut E, why: Refusal) -> u8
+    ensures { Tells (Told.Refused why) (prints (O.printed out.old) (O.printed out.new)
+        (E.printed err.old) (E.printed err.new) result) }
 {
     print(out, err, &Told::Refused(why))
 }
 
 /// Tells why there is no desk over a file, and gives back what is left of that.
-fn tell_no_desk<D: Disk + Drop, O: Write, E: Write>(
+fn tell_no_desk<D: Disk + Drop, O: Print, E: Print>(
     out: &mut O,
     err: &mut E,
     none: NoDesk<D>,
 ) -> Ran<D>
     ensures left { result.left ≡ none.left }
-    ensures told { Tells (Told.Refused none.why) (prints (O.contents out.old) (O.contents out.new)
-        (E.contents err.old) (E.contents err.new) result.status) }
+    ensures told { Tells (Told.Refused none.why) (prints (O.printed out.old) (O.printed out.new)
+        (E.printed err.old) (E.printed err.new) result.status) }
 {
     Ran {
         status: tell_refusal(out, err, none.why),
@@ -243,14 +243,14 @@ fn tell_no_desk<D: Disk + Drop, O: Write, E: Write>(
 }
 
 /// Tells why no file was opened.
-fn tell_unopened<D: Disk + Drop, O: Write, E: Write>(
+fn tell_unopened<D: Disk + Drop, O: Print, E: Print>(
     out: &mut O,
     err: &mut E,
     why: Refusal,
 ) -> Ran<D>
     ensures left { result.left ≡ Left.Nothing }
-    ensures told { Tells (Told.Refused why) (prints (O.contents out.old) (O.contents out.new)
-        (E.contents err.old) (E.contents err.new) result.status) }
+    ensures told { Tells (Told.Refused why) (prints (O.printed out.old) (O.printed out.new)
+        (E.printed err.old) (E.printed err.new) result.status) }
 {
     Ran {
         status: tell_refusal(out, err, why),
@@ -259,7 +259,7 @@ fn tell_unopened<D: Disk + Drop, O: Write, E: Write>(
 }
 
 /// Opens the event in a file that is there for a task. The file is opened before a list is read, and before anybody is listened to.
-fn open<H: Host, O: Write, E: Write>(
+fn open<H: Host, O: Print, E: Print>(
     alloc: Global,
     host: &mut H,
     path: &str,
@@ -270,12 +270,12 @@ fn open<H: Host, O: Write, E: Write>(
     requires shut { IsTrue (H.is_shut host.old) }
     requires there { (H.world host.old).is_there path.now ≢ Some false }
     ensures ends { EndsLine H.File.Disk (H.world host.old) path.now result.left
-        (prints (O.contents out.old) (O.contents out.new)
-        (E.contents err.old) (E.contents err.new) result.status) (Open task) }
+        (prints (O.printed out.old) (O.printed out.new)
+        (E.printed err.old) (E.printed err.new) result.status) (Open task) }
     // Of a file that a history left, the history goes on with what the desk is asked.
     ensures goes_on { GoesOnTask H.File.Disk (H.world host.old) path.now task
-        result.left (prints (O.contents out.old) (O.contents out.new) (E.contents err.old)
-        (E.contents err.new) result.status) }
+        result.left (prints (O.printed out.old) (O.printed out.new) (E.printed err.old)
+        (E.printed err.new) result.status) }
 {
     // What a session leaves is an end of the history with that session: this tells the proof.
     next_sessions();
@@ -287,7 +287,7 @@ fn open<H: Host, O: Write, E: Write>(
 }
 
 /// Does what a command line asks of its file, and gives the status to end with and what is left of the file.
-pub fn run_line<H: Host, O: Write, E: Write>(
+pub fn run_line<H: Host, O: Print, E: Print>(
     alloc: Global,
     host: &mut H,
     line: Line,
@@ -296,13 +296,13 @@ pub fn run_line<H: Host, O: Write, E: Write>(
 ) -> Ran<H::File>
     requires shut { IsTrue (H.is_shut host.old) }
     ensures ends { EndsLine H.File.Disk (H.world host.old) (file_of line) result.left
-        (prints (O.contents out.old) (O.contents out.new)
-        (E.contents err.old) (E.contents err.new) result.status) (action_of line) }
+        (prints (O.printed out.old) (O.printed out.new)
+        (E.printed err.old) (E.printed err.new) result.status) (action_of line) }
     // Of a file that a history left, the history goes on with what the desk is asked, or the system says that it isn't there; and no other
     // event is made in it.
     ensures goes_on { GoesOnAction H.File.Disk (H.world host.old) (file_of line) (action_of line)
-        result.left (prints (O.contents out.old) (O.contents out.new) (E.contents err.old)
-        (E.contents err.new) result.status) }
+        result.left (prints (O.printed out.old) (O.printed out.new) (E.printed err.old)
+        (E.printed err.new) result.status) }
 {
     let (file, action) = file_and_action(line);
     let path = file.as_str();

@@ -3,8 +3,7 @@ ghost use Rattle.std.specs.Io.KnownBytes.{Appends};
 ghost use Rattle.er_cli.specs.Help.{option_text, subcommand_text, text_for};
 ghost use Rattle.er_cli.specs.Texts.{AppendsPart};
 
-use crate::texts::{WriteFault, flush, send};
-use std::io::Write;
+use crate::texts::{Print, WriteFault};
 
 /// What `--version` prints.
 pub const VERSION: &str = "event_reporter 0.1.0\n";
@@ -405,14 +404,12 @@ one command per line, the words separated by one TAB. Ctrl-D ends the script,
 Ctrl-C stops the program. For an event in a file, try: event_reporter --help
 ";
 
-/// Writes a text, and has the writer pass it on.
-pub fn print_text<W: Write>(writer: &mut W, text: &str) -> Result<(), WriteFault>
-    ensures sent { OnOk result (Appends (W.contents writer.old) (W.contents writer.new) text.now) }
-    ensures part { OnErr result (AppendsPart (W.contents writer.old)
-        (W.contents writer.new) text.now) }
+/// Prints a text.
+pub fn print_text<W: Print>(writer: &mut W, text: &str) -> Result<(), WriteFault>
+    ensures sent { OnOk result (Appends (W.printed writer.old) (W.printed writer.new) text.now) }
+    ensures part { OnErr result (AppendsPart (W.printed writer.old) (W.printed writer.new) text.now) }
 {
-    send(writer, text.as_bytes())?;
-    flush(writer)
+    writer.print(text.as_bytes())
 }
 
 /// The text that an option asks for.

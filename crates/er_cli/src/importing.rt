@@ -9,7 +9,7 @@ ghost use Rattle.er_cli.specs.Help.{PutsText, prints, stream};
 
 use crate::host::Host;
 use crate::input::{InputFault, read_whole};
-use crate::texts::{WriteFault, print_line};
+use crate::texts::{Print, WriteFault, print_line};
 use crate::{DEVICE, DONE, REFUSED, end_with, print};
 use er_answers::Told;
 use er_desk::laws::lists_grow;
@@ -18,7 +18,6 @@ use er_event::{Command, Items, Name, Refusal};
 use er_paper::{CsvFault, PlayerLine, ShortText, read_players_csv};
 use sqlite::Alter;
 use std::alloc::Global;
-use std::io::Write;
 
 /// How many bytes a list of players may have.
 pub const MAX_LIST_BYTES: usize = 131_072;
@@ -66,8 +65,8 @@ fn fault_line(fault: CsvFault) -> ShortText
     line
 }
 
-fn say_fault<W: Write>(writer: &mut W, fault: CsvFault) -> u8
-    ensures { PutsText (fault_text fault) REFUSED (stream (W.contents writer.old) (W.contents writer.new)) result }
+fn say_fault<W: Print>(writer: &mut W, fault: CsvFault) -> u8
+    ensures { PutsText (fault_text fault) REFUSED (stream (W.printed writer.old) (W.printed writer.new)) result }
 {
     match print_line(writer, &fault_line(fault)) {
         Ok(()) => REFUSED,
@@ -142,10 +141,10 @@ fn enrol_all<S: Alter>(alloc: Global, desk: &mut Desk<S>, lines: &[PlayerLine]) 
 }
 
 /// Prints how many were enrolled, and the refusal that ended it, where there is one.
-fn print_additions<O: Write, E: Write>(out: &mut O, err: &mut E, enrolled: Enrolled) -> u8
+fn print_additions<O: Print, E: Print>(out: &mut O, err: &mut E, enrolled: Enrolled) -> u8
     ensures { PrintsAdditions enrolled.additions enrolled.stop
-        (prints (O.contents out.old) (O.contents out.new)
-        (E.contents err.old) (E.contents err.new) result) }
+        (prints (O.printed out.old) (O.printed out.new)
+        (E.printed err.old) (E.printed err.new) result) }
 {
     let Ok(()) = print_line(out, &additions_line(enrolled.additions)) else {
         return DEVICE;
@@ -157,7 +156,7 @@ fn print_additions<O: Write, E: Write>(out: &mut O, err: &mut E, enrolled: Enrol
 }
 
 /// Enrols the names of a list, or says which fault it has.
-fn import_list<S: Alter, O: Write, E: Write>(
+fn import_list<S: Alter, O: Print, E: Print>(
     alloc: Global,
     desk: &mut Desk<S>,
     list: &[u8],
@@ -166,8 +165,8 @@ fn import_list<S: Alter, O: Write, E: Write>(
 ) -> u8
     requires { IsFalse (desk_state desk.old).needs_reopen }
     ensures { AsksSome S.Store desk.old
-        (ImportsList (prints (O.contents out.old) (O.contents out.new)
-        (E.contents err.old) (E.contents err.new) result) list.now) desk.new }
+        (ImportsList (prints (O.printed out.old) (O.printed out.new)
+        (E.printed err.old) (E.printed err.new) result) list.now) desk.new }
 {
     // Where nobody is enrolled, nothing is asked of the file: this tells the proof.
     desk.asks_nothing();
@@ -182,7 +181,7 @@ fn import_list<S: Alter, O: Write, E: Write>(
 }
 
 /// Enrols the names of the list in a file. Of a list that can't be read, or has a fault, nobody is enrolled.
-pub fn import<H: Host, S: Alter, O: Write, E: Write>(
+pub fn import<H: Host, S: Alter, O: Print, E: Print>(
     alloc: Global,
     host: &H,
     desk: &mut Desk<S>,
@@ -191,8 +190,8 @@ pub fn import<H: Host, S: Alter, O: Write, E: Write>(
     err: &mut E,
 ) -> u8
     requires { IsFalse (desk_state desk.old).needs_reopen }
-    ensures { AsksSome S.Store desk.old (Imports (prints (O.contents out.old) (O.contents out.new)
-        (E.contents err.old) (E.contents err.new) result) ((H.world host.now).list path.now)) desk.new }
+    ensures { AsksSome S.Store desk.old (Imports (prints (O.printed out.old) (O.printed out.new)
+        (E.printed err.old) (E.printed err.new) result) ((H.world host.now).list path.now)) desk.new }
 {
     // Where nobody is enrolled, nothing is asked of the file: this tells the proof.
     desk.asks_nothing();

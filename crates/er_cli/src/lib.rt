@@ -1,7 +1,7 @@
 //! Command lines over the file of an event, and scripts over one in memory: does what their words ask and prints the answers.
 #![tactic(auto)]
 
-ghost use Rattle.std.specs.Prelude.{List, ◌≡◌, ◌⊎◌, IsTrue, IfOk, IfSome, OnOk, OnErr, None, Some, map, string_bytes};
+ghost use Rattle.std.specs.Prelude.{◌≡◌, ◌⊎◌, IsTrue, IfOk, OnErr, None, Some, map, string_bytes};
 ghost use Rattle.std.specs.Io.KnownBytes.{Appends};
 ghost use Rattle.er_cli.specs.Texts.{told_text, AppendsPart};
 ghost use Rattle.sqlite_wal.specs.Files.{image_at};
@@ -52,7 +52,8 @@ use sqlite::{FileFrom, Start, Wary};
 use sqlite_disk::Disk;
 use std::alloc::Global;
 use std::io::{Read, Write};
-use texts::{LineAnswer, WriteFault, flush, print_answer, print_told};
+pub use texts::{Print, WriteFault};
+use texts::{LineAnswer, print_answer, print_told};
 
 /// It was done; of a script, to its end, whatever its lines were answered.
 const DONE: u8 = 0;
@@ -66,9 +67,9 @@ const DEVICE: u8 = 3;
 const MEMORY: u8 = 4;
 
 /// Prints why a script is not run, and gives the status to end with.
-fn print_fault<W: Write>(writer: &mut W, fault: InputFault) -> Result<u8, WriteFault>
-    ensures ends { IfOk result (EndsUnread fault (W.contents writer.old) (W.contents writer.new)) }
-    ensures part { OnErr result (UnreadPart fault (W.contents writer.old) (W.contents writer.new)) }
+fn print_fault<W: Print>(writer: &mut W, fault: InputFault) -> Result<u8, WriteFault>
+    ensures ends { IfOk result (EndsUnread fault (W.printed writer.old) (W.printed writer.new)) }
+    ensures part { OnErr result (UnreadPart fault (W.printed writer.old) (W.printed writer.new)) }
 {
     match fault {
         InputFault::TooLong => {
@@ -83,15 +84,15 @@ fn print_fault<W: Write>(writer: &mut W, fault: InputFault) -> Result<u8, WriteF
     }
 }
 
-fn answer_script<R: Read, W: Write>(
+fn answer_script<R: Read, W: Print>(
     alloc: Global,
     reader: &mut R,
     writer: &mut W,
 ) -> Result<u8, WriteFault>
-    ensures ends { IfOk result (EndsScript (R.remaining reader.old) (W.contents writer.old)
-        (W.contents writer.new)) }
-    ensures part { OnErr result (Breaks (R.remaining reader.old) (W.contents writer.old)
-        (W.contents writer.new)) }
+    ensures ends { IfOk result (EndsScript (R.remaining reader.old) (W.printed writer.old)
+        (W.printed writer.new)) }
+    ensures part { OnErr result (Breaks (R.remaining reader.old) (W.printed writer.old)
+        (W.printed writer.new)) }
 {
     let script = match read_script(alloc, reader) {
         Ok(script) => script,
@@ -105,15 +106,12 @@ fn answer_script<R: Read, W: Write>(
 }
 
 /// Runs a script on one event in memory, prints the answer to each line, and gives the status to end with. Each answer is one write, where
-/// the writer takes it whole, and the writer is flushed at the end.
+/// the writer takes it whole, and a flush.
 pub fn run_script<R: Read, W: Write>(rt: &HostRuntime, reader: &mut R, writer: &mut W) -> u8
     ensures { EndsScript (R.remaining reader.old) (W.contents writer.old) (W.contents writer.new) result }
 {
-    let Ok(status) = answer_script(rt.alloc(), reader, writer) else {
-        return DEVICE;
-    };
-    match flush(writer) {
-        Ok(()) => status,
+    match answer_script(rt.alloc(), reader, writer) {
+        Ok(status) => status,
         Err(WriteFault) => DEVICE,
     }
 }
@@ -129,25 +127,14 @@ fn refusal_status(why: &Refusal) -> u8
     }
 }
 
-/// Prints the only answer of a command line, and has the writer pass it on.
-fn print_flushed<W: Write>(writer: &mut W, told: &Told) -> Result<(), WriteFault>
-    ensures sent { OnOk result (Appends (W.contents writer.old) (W.contents writer.new)
-        (told_text told.now)) }
-    ensures part { OnErr result (AppendsPart (W.contents writer.old) (W.contents writer.new)
-        (told_text told.now)) }
-{
-    print_told(writer, told)?;
-    flush(writer)
-}
-
 /// Prints what the desk has answered to the stream that it goes to: a refusal to the errors. Gives the status that comes with it.
-fn print<O: Write, E: Write>(out: &mut O, err: &mut E, told: &Told) -> u8
-    ensures { Tells told.now (prints (O.contents out.old) (O.contents out.new)
-        (E.contents err.old) (E.contents err.new) result) }
+fn print<O: Print, E: Print>(out: &mut O, err: &mut E, told: &Told) -> u8
+    ensures { Tells told.now (prints (O.printed out.old) (O.printed out.new)
+        (E.printed err.old) (E.printed err.new) result) }
 {
     let (printed, status) = match told {
-        Told::Accepted(_) | Told::Text(_) | Told::Slip(_) => (print_flushed(out, told), DONE),
-        Told::Refused(why) => (print_flushed(err, told), refusal_status(why)),
+        Told::Accepted(_) | Told::Text(_) | Told::Slip(_) => (print_told(out, told), DONE),
+        Told::Refused(why) => (print_told(err, told), refusal_status(why)),
     };
     match printed {
         Ok(()) => status,
@@ -156,8 +143,8 @@ fn print<O: Write, E: Write>(out: &mut O, err: &mut E, told: &Told) -> u8
 }
 
 /// Prints a text on the one stream, and gives the status to end with.
-fn end_with<W: Write>(writer: &mut W, text: &str, due: u8) -> u8
-    ensures { PutsText text.now due (stream (W.contents writer.old) (W.contents writer.new)) result }
+fn end_with<W: Print>(writer: &mut W, text: &str, due: u8) -> u8
+    ensures { PutsText text.now due (stream (W.printed writer.old) (W.printed writer.new)) result }
 {
     match print_text(writer, text) {
         Ok(()) => due,
@@ -166,7 +153,7 @@ fn end_with<W: Write>(writer: &mut W, text: &str, due: u8) -> u8
 }
 
 /// Prints which of the words was not understood and how to go on, and gives the status that comes with it.
-fn print_usage<O: Write, E: Write>(
+fn print_usage<O: Print, E: Print>(
     alloc: Global,
     words: &[String],
     fault: UsageFault,
@@ -174,8 +161,8 @@ fn print_usage<O: Write, E: Write>(
     err: &mut E,
 ) -> u8
     ensures { fault_of (map string_bytes words.now) ≡ Some fault
-        → EndsAsUsage (map string_bytes words.now) (prints (O.contents out.old) (O.contents out.new)
-        (E.contents err.old) (E.contents err.new) result) }
+        → EndsAsUsage (map string_bytes words.now) (prints (O.printed out.old) (O.printed out.new)
+        (E.printed err.old) (E.printed err.new) result) }
 {
     match complaint(alloc, words, fault) {
         Ok(text) => end_with(err, text.as_str(), USAGE),
@@ -215,7 +202,7 @@ pub fn run_from<S: Start, O: Write, E: Write>(
 
 /// Does what the words of a command line ask, on any host. What it finds there is what the host's `world` tells, and the file of the event is
 /// opened once.
-pub fn run_on<H: Host, O: Write, E: Write>(
+pub fn run_on<H: Host, O: Print, E: Print>(
     alloc: Global,
     host: &mut H,
     words: &[String],
@@ -228,12 +215,12 @@ pub fn run_on<H: Host, O: Write, E: Write>(
     // finds it. `init` makes no other event there. Or the answer is one that comes before the file is opened: that it isn't there, or that
     // memory or the device is wanting. Then nothing is left.
     ensures goes_on { GoesOnWords H.File.Disk (H.world host.old)
-        (map string_bytes words.now) result.left (prints (O.contents out.old) (O.contents out.new)
-        (E.contents err.old) (E.contents err.new) result.status) }
+        (map string_bytes words.now) result.left (prints (O.printed out.old) (O.printed out.new)
+        (E.printed err.old) (E.printed err.new) result.status) }
     // What is done and told over a file that may hold anything, and of which list and which clients.
     ensures ends { EndsWords H.File.Disk (H.world host.old)
-        (map string_bytes words.now) result.left (prints (O.contents out.old) (O.contents out.new)
-        (E.contents err.old) (E.contents err.new) result.status) }
+        (map string_bytes words.now) result.left (prints (O.printed out.old) (O.printed out.new)
+        (E.printed err.old) (E.printed err.new) result.status) }
 {
     if let Some(text) = text_for(words) {
         return Ran {

@@ -14,14 +14,13 @@ ghost use Rattle.er_cli.specs.inside.Desk.{HasOwnTables, desk_state_of};
 
 use crate::action::{Action, Task, file_and_action};
 use crate::setup::set_up;
-use crate::texts::{LineAnswer, WriteFault, print_answer};
+use crate::texts::{LineAnswer, Print, WriteFault, print_answer};
 use er_answers::{Question, Told, ask, reply_told};
 use er_desk::{Desk, Reply};
 use er_event::{Name, Receipt, Refusal};
 use er_words::{LineFault, read_line};
 use sqlite::{Connection, MemStore};
 use std::alloc::Global;
-use std::io::Write;
 
 /// A script that is run on one store in memory. It has a desk once an event is made.
 #[derive(Drop)]
@@ -120,11 +119,11 @@ impl Runner {
 }
 
 /// Runs lines one after the other, and prints their answers.
-pub fn run_lines<W: Write>(alloc: Global, lines: &[&[u8]], writer: &mut W) -> Result<(), WriteFault>
-    ensures whole { OnOk result (Prints (map (λ line. line.now) lines.now) (W.contents writer.old)
-        (W.contents writer.new)) }
+pub fn run_lines<W: Print>(alloc: Global, lines: &[&[u8]], writer: &mut W) -> Result<(), WriteFault>
+    ensures whole { OnOk result (Prints (map (λ line. line.now) lines.now) (W.printed writer.old)
+        (W.printed writer.new)) }
     ensures part { OnErr result (PrintsPart (map (λ line. line.now) lines.now)
-        (W.contents writer.old) (W.contents writer.new)) }
+        (W.printed writer.old) (W.printed writer.new)) }
 {
     let mut runner = Runner { alloc, desk: None };
     for line in lines {

@@ -7,7 +7,7 @@ ghost use Rattle.er_cli.specs.Serving.{ConnectsMany, ConnectsNext, ConnectsUpTo,
 ghost use Rattle.er_cli.specs.inside.Serving.{listening_text, served_text};
 
 use crate::clients::{AcceptFault, Clients, Listening};
-use crate::texts::{WriteFault, print_line};
+use crate::texts::{Print, WriteFault, print_line};
 use crate::{DEVICE, DONE};
 use er_desk::Desk;
 use er_paper::ShortText;
@@ -87,7 +87,7 @@ pub fn serve_clients<S: Alter, C: Clients>(
 
 /// Serves so many clients, one after the other, and gives the status to end with: 3 where no client can be had or a print fails. Prints the
 /// port that they come to, and at the end how many it has served. A client that goes away counts as served.
-pub fn serve_all<S: Alter, C: Clients, W: Write>(
+pub fn serve_all<S: Alter, C: Clients, W: Print>(
     alloc: Global,
     routes: &Routes,
     desk: &mut Desk<S>,
@@ -98,7 +98,7 @@ pub fn serve_all<S: Alter, C: Clients, W: Write>(
 ) -> u8
     // Each client leaves the desk as it was, has it read its standings or a slip, or hands it one score: these scores are the session.
     ensures turns { AsksSome S.Store desk.old (ServesAll count result (C.coming clients.old)) desk.new }
-    ensures printed { PrintsServed port count (stream (W.contents out.old) (W.contents out.new)) result }
+    ensures printed { PrintsServed port count (stream (W.printed out.old) (W.printed out.new)) result }
     // Where all are served, each of whom it is known what they send got its answer.
     ensures served { result ≡ DONE → ServesKnown S.Store count (C.coming clients.old)
         (C.got clients.old) desk.old (C.coming clients.new) (C.got clients.new) desk.new }

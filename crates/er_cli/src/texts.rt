@@ -1,4 +1,4 @@
-ghost use Rattle.std.specs.Prelude.{◌≡◌, OnOk, OnErr};
+ghost use Rattle.std.specs.Prelude.{◌≡◌, ℕ, List, Option, OnOk, OnErr};
 ghost use Rattle.std.specs.Io.KnownBytes.{Appends, Keeps};
 ghost use Rattle.er_answers.specs.declared.question.Told.TheVariants.{Accepted, Refused};
 ghost use Rattle.er_cli.specs.Texts.{answer_text, told_text, AppendsPart};
@@ -21,8 +21,29 @@ pub enum LineAnswer {
 #[derive(Clone, Copy)]
 pub struct WriteFault;
 
+/// Where answers go.
+pub trait Print {
+    /// What has gone out, where that is known. What is held back is not printed yet.
+    ghost printed: { Self → Option (List ℕ) };
+
+    /// Prints the bytes: they go out, and nothing is held back. Where that fails, a beginning of them has.
+    fn print(&mut self, bytes: &[u8]) -> Result<(), WriteFault>
+        ensures sent { OnOk result (Appends (printed self.old) (printed self.new) bytes.now) }
+        ensures part { OnErr result (AppendsPart (printed self.old) (printed self.new) bytes.now) };
+}
+
+/// A writer is flushed after each print. Its contract says what it was handed, and not what its flush passes on.
+impl<W: Write> Print for W {
+    ghost printed = { λ writer. W.contents writer };
+
+    fn print(&mut self, bytes: &[u8]) -> Result<(), WriteFault> {
+        send(self, bytes)?;
+        flush(self)
+    }
+}
+
 /// Writes the bytes, by one call where the writer takes them all. A call that takes none has failed.
-pub fn send<W: Write>(writer: &mut W, bytes: &[u8]) -> Result<(), WriteFault>
+fn send<W: Write>(writer: &mut W, bytes: &[u8]) -> Result<(), WriteFault>
     ensures sent { OnOk result (Appends (W.contents writer.old) (W.contents writer.new) bytes.now) }
     ensures part { OnErr result (AppendsPart (W.contents writer.old)
         (W.contents writer.new) bytes.now) }
@@ -41,7 +62,7 @@ pub fn send<W: Write>(writer: &mut W, bytes: &[u8]) -> Result<(), WriteFault>
 }
 
 /// Has the writer pass on what it holds back.
-pub fn flush<W: Write>(writer: &mut W) -> Result<(), WriteFault>
+fn flush<W: Write>(writer: &mut W) -> Result<(), WriteFault>
     ensures { Keeps (W.contents writer.old) (W.contents writer.new) }
 {
     match writer.flush() {
@@ -73,38 +94,37 @@ fn refusal_line(refusal: &Refusal) -> ShortText
 }
 
 /// Prints what the desk has answered, by one write where the writer takes it whole. It takes no memory.
-pub fn print_told<W: Write>(writer: &mut W, told: &Told) -> Result<(), WriteFault>
-    ensures sent { OnOk result (Appends (W.contents writer.old) (W.contents writer.new)
+pub fn print_told<W: Print>(writer: &mut W, told: &Told) -> Result<(), WriteFault>
+    ensures sent { OnOk result (Appends (W.printed writer.old) (W.printed writer.new)
         (told_text told.now)) }
-    ensures part { OnErr result (AppendsPart (W.contents writer.old) (W.contents writer.new)
+    ensures part { OnErr result (AppendsPart (W.printed writer.old) (W.printed writer.new)
         (told_text told.now)) }
 {
     match told {
-        Told::Accepted(receipt) => send(writer, ok_line(receipt.serial).as_slice()),
-        Told::Text(text) | Told::Slip(text) => send(writer, text.as_slice()),
-        Told::Refused(refusal) => send(writer, refusal_line(refusal).as_slice()),
+        Told::Accepted(receipt) => writer.print(ok_line(receipt.serial).as_slice()),
+        Told::Text(text) | Told::Slip(text) => writer.print(text.as_slice()),
+        Told::Refused(refusal) => writer.print(refusal_line(refusal).as_slice()),
     }
 }
 
 /// Prints the answer to a line of a script.
-pub fn print_answer<W: Write>(writer: &mut W, answer: &LineAnswer) -> Result<(), WriteFault>
-    ensures sent { OnOk result (Appends (W.contents writer.old) (W.contents writer.new)
+pub fn print_answer<W: Print>(writer: &mut W, answer: &LineAnswer) -> Result<(), WriteFault>
+    ensures sent { OnOk result (Appends (W.printed writer.old) (W.printed writer.new)
         (answer_text answer.now)) }
-    ensures part { OnErr result (AppendsPart (W.contents writer.old) (W.contents writer.new)
+    ensures part { OnErr result (AppendsPart (W.printed writer.old) (W.printed writer.new)
         (answer_text answer.now)) }
 {
     match answer {
         LineAnswer::Asked(told) => print_told(writer, told),
-        LineAnswer::Usage => send(writer, b"usage\n"),
+        LineAnswer::Usage => writer.print(b"usage\n"),
     }
 }
 
-/// Prints a line, and has the writer pass it on: whoever waits for the port reads it at once.
-pub fn print_line<W: Write>(writer: &mut W, line: &ShortText) -> Result<(), WriteFault>
-    ensures sent { OnOk result (Appends (W.contents writer.old) (W.contents writer.new) line.now) }
-    ensures part { OnErr result (AppendsPart (W.contents writer.old)
-        (W.contents writer.new) line.now) }
+/// Prints a line.
+pub fn print_line<W: Print>(writer: &mut W, line: &ShortText) -> Result<(), WriteFault>
+    ensures sent { OnOk result (Appends (W.printed writer.old) (W.printed writer.new) line.now) }
+    ensures part { OnErr result (AppendsPart (W.printed writer.old)
+        (W.printed writer.new) line.now) }
 {
-    send(writer, line.as_slice())?;
-    flush(writer)
+    writer.print(line.as_slice())
 }

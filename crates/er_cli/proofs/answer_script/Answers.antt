@@ -38,7 +38,7 @@ returns-clause-ends g c =
       whole = c.in-Ok.ensures.whole;
       small = omega (arith, c.in-Ok.script.ok.0, c.in-Ok.ensures.small);
       prints = subst
-          (λ (ls : List (List ℕ)). Prints ls (g.W.Write.contents c.args.writer.now) (g.W.Write.contents c.run_lines.new.writer))
+          (λ (ls : List (List ℕ)). Prints ls (g.W.Print.printed c.args.writer.now) (g.W.Print.printed c.run_lines.new.writer))
           lines c.in_ok-run_lines.ensures.whole;
     })
 
@@ -51,6 +51,6 @@ returns-in_err-run_lines-clause-part g c =
       whole = c.in-Ok.ensures.whole;
       small = omega (arith, c.in-Ok.script.ok.0, c.in-Ok.ensures.small);
       prints = subst
-          (λ (ls : List (List ℕ)). PrintsPart ls (g.W.Write.contents c.args.writer.now) (g.W.Write.contents c.run_lines.new.writer))
+          (λ (ls : List (List ℕ)). PrintsPart ls (g.W.Print.printed c.args.writer.now) (g.W.Print.printed c.run_lines.new.writer))
           lines c.in_err-run_lines.ensures.part;
     })))

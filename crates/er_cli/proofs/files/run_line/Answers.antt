@@ -32,8 +32,8 @@ returns-in-Init-clause-goes_on g c =
     ) (
     rw (sym c.as_str-path.ensures) (
     init_goes_on g.H.File.Disk (g.H.Host.world c.args.host.now) c.as_str-path.result.now c.make.result.left
-    (prints (g.O.Write.contents c.args.out.now) (g.O.Write.contents c.make.new.out) (g.E.Write.contents c.args.err.now)
-    (g.E.Write.contents c.make.new.err) c.make.result.status)
+    (prints (g.O.Print.printed c.args.out.now) (g.O.Print.printed c.make.new.out) (g.E.Print.printed c.args.err.now)
+    (g.E.Print.printed c.make.new.err) c.make.result.status)
     c.as_slice.result.now c.in-Init.rounds c.in-Init.cut c.make.ensures
     )
     )

@@ -26,8 +26,8 @@ returns-in_err-print_answer-clause-part g c =
     let none : Bor (List ℕ) = record { ref_ptr = (0, 0); now = [] } in
     let runs = Runs-push _ so_far.0 _ _ _ _ answer so_far.1 c.answer-answer.ensures.answers in
     let printed = part_after _ _ _ _ _ so_far.2 c.in_err-print_answer.ensures.part in
-    let part : PrintsPart (map (λ (line : Bor (List ℕ)). line.now) c.args.lines.now) (g.W.Write.contents c.args.writer.now)
-    (g.W.Write.contents c.print_answer.new.writer) =
+    let part : PrintsPart (map (λ (line : Bor (List ℕ)). line.now) c.args.lines.now) (g.W.Print.printed c.args.writer.now)
+    (g.W.Print.printed c.print_answer.new.writer) =
     record {
       count = c.loop-line.line-index + 1;
       answers = so_far.0 ++ answer ∷ [];

@@ -8,5 +8,5 @@ abbrev pub invariant-loop-line : goal.invariant-loop-line
 invariant-loop-line g l =
     (answers : List LineAnswer) × RunsLines None (map (λ (line : Bor (List ℕ)). line.now) (take l.line-index l.lines)) answers
     (desk_state_of l.runner.desk)
-    × Appends (g.W.Write.contents l.initial.writer) (g.W.Write.contents l.writer) (flat_map answer_text answers)
+    × Appends (g.W.Print.printed l.initial.writer) (g.W.Print.printed l.writer) (flat_map answer_text answers)
     × HasOwnTables l.runner.desk
