@@ -46,7 +46,7 @@ module _ (Represented : Type 0) (old : DeskState) (session : Session) (new : Des
   served_connects input answer (inl (asked, is, answers)) = asked_connects input asked answer is answers
   served_connects input answer (inr it) = inl (it.3, it.2)
 
-  ends_connecting : (input before after : Option (List ℕ)) (served : Served)
+  pub ends_connecting : (input before after : Option (List ℕ)) (served : Served)
       → EndsServing Represented input old session new before after served → Connects input old session new
   ends_connecting input before after ReadFault it = inl (it.2, it.1)
   ends_connecting input before after (Answered status) (answer, wrote, due) = served_connects input answer due

@@ -18,6 +18,7 @@ use Rattle.sqlite_trees.specs.declared.store.Store.{Ghosts}
 use Rattle.er_desk.specs.{Asking.{Asks, GoesOnFrom, NextSessions}}
 use Rattle.er_desk.specs.{History.new_point, Opening.HoldsNothing}
 use Rattle.er_event.specs.Sound.{IsSetUp}
+use Rattle.er_cli.specs.Clients.{Got}
 use Rattle.er_cli.specs.{Files.{MakesEvent, WorksOn}, Left.{IsClearedOf, ClosesFile, WasOpenedClean}, Next.{GoesTo, RecoversSession}}
 use Rattle.er_cli.specs.World.{World}
 use Rattle.er_cli.specs.declared.left.{Left.Left, Left.TheVariants.Nothing}
@@ -401,12 +402,12 @@ module _ (law : NextSessions) (image : Image) (new : Point) (first : Placed) (en
     refused_fault (NotOpened refusal left) why is failed = tt
     refused_fault (OpenedInVain conn refusal) why is failed = λ clean. subst IsFault (sym is) (failed clean)
 
-    module _ (world : World) (p : Printed) where
+    module _ (world : World) (got : Option (List Got)) (p : Printed) where
       -- the half of what is told
       answers_task : (task : Task) (desk last : Desk (FileStore D d) over_files) → IsFalse (desk_state desk).needs_reopen
           → IsFound d image first desk → (HasCleanDisk (state over_files last) → HasCleanDisk (state over_files desk))
           → ClosesFile (state over_files last) what → (work : Work)
-          → DoesTask world (HasCleanDisk (state over_files last) × HoldsOwnEvent over_files desk) (desk_state desk) task work (desk_state last) p
+          → DoesTask world got (HasCleanDisk (state over_files last) × HoldsOwnEvent over_files desk) (desk_state desk) task work (desk_state last) p
           → AnswersTask (WasOpenedClean what) first task work p
       answers_task (Ask question) desk last runs found cleans put work (told, answers, is, tells) = (
         told,
@@ -417,10 +418,10 @@ module _ (law : NextSessions) (image : Image) (new : Point) (first : Placed) (en
       answers_task (Import list) desk last runs found cleans put work (session, is, did) =
           (session, is, imports_only p (world.list list) (desk_state desk) session (desk_state last) did)
       answers_task (Serve port count) desk last runs found cleans put work (session, is, did) =
-          (session, is, serves_only p count (world.coming port) (desk_state desk) session (desk_state last) did)
+          (session, is, serves_only _ p port count (world.coming port) got (desk_state desk) session (desk_state last) did)
 
       pub task_goes_on : (task : Task) (desk last : Desk (FileStore D d) over_files) → IsFalse (desk_state desk).needs_reopen
-          → IsFound d image first desk → Does over_files world desk task last p → ClosesFile (state over_files last) what
+          → IsFound d image first desk → Does over_files world got desk task last p → ClosesFile (state over_files last) what
           → GoesOn d world image new ends first what p task
       task_goes_on task desk last runs found it put = inl (record {
         done = it.done;
@@ -478,7 +479,7 @@ module _ {D : Type 0} (d : disk.Ghosts D) (world : World) (file : List ℕ) (wha
       leaves = subst (λ (left : Left D d). RecoversSession d (Stays first.version) new ends no_session left) (sym nothing) tt;
     }
 
-  pub init_goes_on : (name : List ℕ) (rounds cut : ℕ) → EndsLine d world file what p (Init name rounds cut)
+  pub init_goes_on : (got : Option (List Got)) (name : List ℕ) (rounds cut : ℕ) → EndsLine d world got file what p (Init name rounds cut)
       → GoesOnAction d world file (Init name rounds cut) what p
-  init_goes_on name rounds cut it new first ends was =
+  init_goes_on got name rounds cut it new first ends was =
       record { done = it.done; told = it.told; file = no_other new first ends was name rounds cut it.done it.file }

@@ -19,3 +19,4 @@ mod Helping
 mod Stopping
 mod Hosting
 mod OnlySuch
+mod Handing

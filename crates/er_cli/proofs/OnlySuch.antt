@@ -6,6 +6,7 @@ use Rattle.er_event.specs.declared.commands.{Command.Command, Command.TheVariant
 use Rattle.er_desk.specs.{Asking.{join_sessions, later_in_doubt}, Desk.DeskState, Reply.Reply}
 use Rattle.er_desk.specs.Run.{Session, acknowledged_commands, last_tried, no_session, session_of, tried_or}
 use Rattle.er_paper.specs.declared.imports.PlayerLine.{PlayerLine}
+use Rattle.er_cli.specs.Clients.{Got}
 use Rattle.er_cli.specs.{Help.Printed, Importing.{Imports, last_reply}, Tasks.{AsksOnly, IsEnrolment, IsScore}}
 use Rattle.er_cli.specs.Serving.{Connects, ConnectsAll, ServesClients}
 use Rattle.er_cli.proofs.Repeating.{tried_either}
@@ -91,9 +92,11 @@ all_only (suc count) coming then old session new (mid, last, before, one, earlie
     subst (AsksOnly IsScore) (sym is)
     (joined_only IsScore before one (all_only count coming mid old before last earlier) (connects_only sent last one new connects))
 
-pub serves_only : (p : Printed) (count : ℕ) (coming : Option (List (List ℕ))) (old : DeskState) (session : Session) (new : DeskState)
-    → ServesClients p count coming old session new → AsksOnly IsScore session
-serves_only p count coming old session new (inl (printed, same, inl (done, (then, all)))) = all_only count coming then old session new all
-serves_only p count coming old session new (inl (printed, same, inr (broke, (fewer, few, (then, all))))) =
+pub serves_only : (Represented : Type 0) (p : Printed) (port count : ℕ) (coming : Option (List (List ℕ))) (got : Option (List Got))
+    (old : DeskState) (session : Session) (new : DeskState) → ServesClients Represented p port count coming got old session new
+    → AsksOnly IsScore session
+serves_only Represented p port count coming got old session new (inl (printed, same, inl (done, (then, all)), due)) =
+    all_only count coming then old session new all
+serves_only Represented p port count coming got old session new (inl (printed, same, inr (broke, (fewer, few, (then, all))), due)) =
     all_only fewer coming then old session new all
-serves_only p count coming old session new (inr (still, none, said)) = nothing_only IsScore session none
+serves_only Represented p port count coming got old session new (inr (still, none, said)) = nothing_only IsScore session none

@@ -49,7 +49,7 @@ none_then_doubt None = refl
 none_then_doubt (Some command) = refl
 
 -- with no session behind it
-alone : (s : Session) → s ≡ join_sessions s no_session
+pub alone : (s : Session) → s ≡ join_sessions s no_session
 alone s = ap (λ (cs : List Command). let it : Session = record { acknowledged = cs; in_doubt = s.in_doubt } in it)
     (sym (append-nil s.acknowledged))
 
@@ -125,7 +125,7 @@ later_doubts : (a b c : Option Command) → later_in_doubt a (later_in_doubt b c
 later_doubts a b None = refl
 later_doubts a b (Some command) = refl
 
-joined_later : (s t u : Session) → join_sessions s (join_sessions t u) ≡ join_sessions (join_sessions s t) u
+pub joined_later : (s t u : Session) → join_sessions s (join_sessions t u) ≡ join_sessions (join_sessions s t) u
 joined_later s t u =
     let first = ap (λ (cs : List Command). let it : Session = record {
       acknowledged = cs;
@@ -137,12 +137,12 @@ joined_later s t u =
       in_doubt = d;
     } in it) (later_doubts s.in_doubt t.in_doubt u.in_doubt)
 
-nothing_first : (s : Session) → join_sessions no_session s ≡ s
+pub nothing_first : (s : Session) → join_sessions no_session s ≡ s
 nothing_first s =
     ap (λ (d : Option Command). let it : Session = record { acknowledged = s.acknowledged; in_doubt = d } in it) (none_then_doubt s.in_doubt)
 
 -- on what each rests may be said with more
-get_by : (Is Sure : Type 0) → (Sure → Is) → (old new : DeskState) (session : Session) (xs : List (List ℕ)) (gs : List Got)
+pub get_by : (Is Sure : Type 0) → (Sure → Is) → (old new : DeskState) (session : Session) (xs : List (List ℕ)) (gs : List Got)
     → GetEach Is old xs gs session new → GetEach Sure old xs gs session new
 get_by Is Sure gives old new session [] [] it = it
 get_by Is Sure gives old new session [] (h ∷ gs) it = absurd it

@@ -1,6 +1,6 @@
 -- What serving clients does: to the desk, and to what is printed.
 use Rattle.std.specs.Global.{Global}
-use Rattle.std.specs.Prelude.{◌≡◌, ◌⊎◌, ◌≤◌, ℕ, zero, suc, List, [], ◌∷◌, ◌++◌, Option, Some, None, IfSome, Result, Ok, Vec, codes}
+use Rattle.std.specs.Prelude.{◌≡◌, ◌⊎◌, ◌≤◌, ℕ, zero, suc, List, [], ◌∷◌, ◌++◌, length, Option, Some, None, IfSome, Result, Ok, Vec, codes}
 use Rattle.std.specs.Fmt.{decimal}
 use Rattle.er_event.specs.declared.commands.Command.TheVariants.{Result as ReportResult}
 use Rattle.er_event.specs.declared.refusals.Refusal.{Refusal}
@@ -17,6 +17,7 @@ use Rattle.er_slips.specs.declared.request.wanted.Request.TheVariants.{Report}
 use Rattle.er_slips.specs.Request.{IsRequest}
 use Rattle.er_cli.specs.declared.TheConstants.{DONE, DEVICE}
 use Rattle.er_cli.specs.declared.help.TheConstants.{CANNOT_LISTEN}
+use Rattle.er_cli.specs.Clients.{GetEach, Got}
 use Rattle.er_cli.specs.Help.{Printed, PutsText, Says, Stream, Tells}
 
 -- One connection: the desk stays as it is, reads its standings or a slip, or is handed one score. Only the score is
@@ -65,12 +66,23 @@ abbrev pub PrintsServed : (port count : ℕ) → Stream → ℕ → Type 0
 PrintsServed port count stream status =
     PutsText ((codes "listening " ++ (decimal port ++ (10 ∷ []))) ++ (codes "served " ++ (decimal count ++ (10 ∷ [])))) DONE stream status
 
--- at some port, or nothing where it can't be told
-abbrev pub PrintsSome : ℕ → Stream → ℕ → Type 0
-PrintsSome count stream status = (port : ℕ) × (port ≤ 65535) × PrintsServed port count stream status
+-- at the port that was asked for; 0 asks for one that is free
+abbrev pub PrintsSome : (asked count : ℕ) → Stream → ℕ → Type 0
+PrintsSome asked count stream status =
+    (port : ℕ) × (port ≤ 65535) × ((asked ≡ 0) ⊎ (port ≡ asked)) × PrintsServed port count stream status
+
+-- Of clients of whom it is known what they send, and what they got then: each got what it was due, on the event that those before it left.
+abbrev pub GetDue : (Represented : Type 0) → ℕ → (coming : Option (List (List ℕ))) → (got : Option (List Got)) → DeskState → Session
+    → DeskState → Type 0
+GetDue Represented count None got old session new = Unit {0}
+GetDue Represented count (Some inputs) None old session new = Unit {0}
+GetDue Represented count (Some inputs) (Some gots) old session new =
+    (came rest : List (List ℕ)) × (inputs ≡ came ++ rest) × (length came ≡ count) × GetEach Represented old came gots session new
 
 -- Clients were served. Or nobody was listened to: the port can't be had, or memory was wanting.
-abbrev pub ServesClients : Printed → ℕ → (coming : Option (List (List ℕ))) → DeskState → Session → DeskState → Type 0
-ServesClients p count coming old session new =
-    (PrintsSome count p.out p.status × (p.err.after ≡ p.err.before) × ServesAll count p.status coming old session new)
+abbrev pub ServesClients : (Represented : Type 0) → Printed → (port count : ℕ) → (coming : Option (List (List ℕ))) → (got : Option (List Got)) → DeskState
+    → Session → DeskState → Type 0
+ServesClients Represented p port count coming got old session new =
+    (PrintsSome port count p.out p.status × (p.err.after ≡ p.err.before) × ServesAll count p.status coming old session new
+    × (p.status ≡ DONE → GetDue Represented count coming got old session new))
     ⊎ ((new ≡ old) × (session ≡ no_session) × (Says CANNOT_LISTEN.now DEVICE p.err p.out p.status ⊎ Tells (Refused Memory) p))

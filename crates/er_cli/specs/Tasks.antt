@@ -1,5 +1,5 @@
 -- What is done with an event that was opened, and what is told of it. No file and no disk is known here.
-use Rattle.std.specs.Prelude.{◌≡◌, ℕ, Bool, IsTrue, IfSome, List, [], ◌∷◌, None}
+use Rattle.std.specs.Prelude.{◌≡◌, ℕ, Bool, IsTrue, IfSome, List, [], ◌∷◌, Option, None}
 use Rattle.std.specs.List.{AllByRecursion}
 use Rattle.er_event.specs.declared.commands.Command.{Command}
 use Rattle.er_event.specs.declared.commands.Command.TheVariants.{Enrol, Result as ReportResult}
@@ -15,6 +15,7 @@ use Rattle.er_answers.specs.declared.question.Told.{Told}
 use Rattle.er_answers.specs.declared.question.Told.TheVariants.{Accepted}
 use Rattle.er_cli.specs.declared.action.Task.{Task}
 use Rattle.er_cli.specs.declared.action.Task.TheVariants.{Ask, Import, Serve}
+use Rattle.er_cli.specs.Clients.{Got}
 use Rattle.er_cli.specs.Help.{Printed, Tells}
 use Rattle.er_cli.specs.Importing.{Imports}
 use Rattle.er_cli.specs.Serving.{ServesClients}
@@ -31,13 +32,13 @@ work_of Migrate told needs_reopen = Migration told
 work_of question told needs_reopen = Commands (session_at question told needs_reopen)
 
 -- What a desk is asked for a task, and what is told of it. `Represented` is that its tables represented its event, on a clean disk.
-abbrev pub DoesTask : World → (Represented : Type 0) → DeskState → Task → Work → DeskState → Printed → Type 0
-DoesTask world Represented old (Ask question) work new p =
+abbrev pub DoesTask : World → (got : Option (List Got)) → (Represented : Type 0) → DeskState → Task → Work → DeskState → Printed → Type 0
+DoesTask world got Represented old (Ask question) work new p =
     (told : Told) × AnswersDesk Represented old question told new × (work ≡ work_of question told new.needs_reopen) × Tells told p
-DoesTask world Represented old (Import list) work new p =
+DoesTask world got Represented old (Import list) work new p =
     (session : Session) × (work ≡ Commands session) × Imports p (world.list list) old session new
-DoesTask world Represented old (Serve port count) work new p =
-    (session : Session) × (work ≡ Commands session) × ServesClients p count (world.coming port) old session new
+DoesTask world got Represented old (Serve port count) work new p =
+    (session : Session) × (work ≡ Commands session) × ServesClients Represented p port count (world.coming port) got old session new
 
 -- ---- at the end of a history
 

@@ -1,5 +1,5 @@
 -- What a command line does, by its words. What is told of it, and what the file becomes, are two halves: here they are joined.
-use Rattle.std.specs.Prelude.{◌≡◌, ◌≢◌, ◌⊎◌, ℕ, false, IsFalse, List, Some, None, IfSome}
+use Rattle.std.specs.Prelude.{◌≡◌, ◌≢◌, ◌⊎◌, ℕ, false, IsFalse, List, Option, Some, None, IfSome}
 use Rattle.sqlite_disk.specs.declared.Disk as disk
 use Rattle.sqlite_trees.specs.declared.store.Store.{Ghosts}
 use Rattle.sqlite_store.specs.declared.store.FileStore.{FileStore}
@@ -20,6 +20,7 @@ use Rattle.er_cli.specs.declared.action.Action.{Action}
 use Rattle.er_cli.specs.declared.action.Action.TheVariants.{Init, Open}
 use Rattle.er_cli.specs.declared.action.Task.{Task}
 use Rattle.er_cli.specs.Action.{action_of, file_of}
+use Rattle.er_cli.specs.Clients.{Got}
 use Rattle.er_cli.specs.Complaints.{EndsAsUsage}
 use Rattle.er_cli.specs.Files.{IsNotOpened, IsNotThere, MakesEvent, WorksOn}
 use Rattle.er_cli.specs.GoingOn.{GoesOnBy, MakesNoOther, StaysUnopened}
@@ -36,13 +37,13 @@ pub record TellsAndLeaves {Done : Type 0} (ToldOf FileOf : Done → Type 0) : Ty
   pub told : ToldOf done
   pub file : FileOf done
 
--- One task was done with this desk.
-abbrev pub Does : {S : Type 0} (g : Ghosts S) → World → Desk S g → Task → Desk S g → Printed → Type 0
-Does g world desk task last p = TellsAndLeaves
-    (λ (work : Work). DoesTask world (HasCleanDisk (state g last) × HoldsOwnEvent g desk) (desk_state desk) task work (desk_state last) p)
+-- One task was done with this desk. `got` is what clients got, if that is known.
+abbrev pub Does : {S : Type 0} (g : Ghosts S) → World → (got : Option (List Got)) → Desk S g → Task → Desk S g → Printed → Type 0
+Does g world got desk task last p = TellsAndLeaves
+    (λ (work : Work). DoesTask world got (HasCleanDisk (state g last) × HoldsOwnEvent g desk) (desk_state desk) task work (desk_state last) p)
     (λ (work : Work). WorksOn g desk work last)
 
-module _ {D : Type 0} (g : disk.Ghosts D) (world : World) (file : List ℕ) (what : Left D g) (p : Printed) where
+module _ {D : Type 0} (g : disk.Ghosts D) (world : World) (got : Option (List Got)) (file : List ℕ) (what : Left D g) (p : Printed) where
   -- Over a file that may hold anything, a line makes an event. Or it opens the event there, does one task with it and puts its file away;
   -- or none was opened, and why is told.
   abbrev pub EndsLine : Action → Type 0
@@ -51,20 +52,20 @@ module _ {D : Type 0} (g : disk.Ghosts D) (world : World) (file : List ℕ) (wha
   EndsLine (Open task) =
       ((world.is_there file ≢ Some false) × (desk : Desk (FileStore D g) over_files) × (last : Desk (FileStore D g) over_files)
       × HasOpened (world.image file) desk
-      × Does over_files world desk task last p × ClosesFile (state over_files last) what)
+      × Does over_files world got desk task last p × ClosesFile (state over_files last) what)
       ⊎ TellsAndLeaves (λ (why : Refusal). Tells (Refused why) p)
       (λ (why : Refusal). IsNotThere (world.is_there file) why what
       ⊎ ((world.is_there file ≢ Some false) × IsNotOpened (world.image file) why what))
 
-pub record EndsWords {D : Type 0} (g : disk.Ghosts D) (world : World) (words : List (List ℕ)) (what : Left D g) (p : Printed)
-    : Type 0 where
+pub record EndsWords {D : Type 0} (g : disk.Ghosts D) (world : World) (got : Option (List Got)) (words : List (List ℕ)) (what : Left D g)
+    (p : Printed) : Type 0 where
   -- A text that the words ask for goes to the output, and no file is touched.
   pub asked : IfSome (text_for words) (λ text. (what ≡ Nothing) × Says text DONE p.out p.err p.status)
   -- Of what asks for no text and is no command line, the errors get what is wrong with it, and the output stays as it is.
   pub unread : IsFalse (asks_text words) → line_of words ≡ None → (what ≡ Nothing) × EndsAsUsage words p
   -- What is one is answered as the event of the file has it, with the status of that answer. Memory may be wanting to read it.
   pub answered : IfSome (line_of words)
-      (λ line. EndsLine g world (file_of line) what p (action_of line) ⊎ ((what ≡ Nothing) × Tells (Refused Memory) p))
+      (λ line. EndsLine g world got (file_of line) what p (action_of line) ⊎ ((what ≡ Nothing) × Tells (Refused Memory) p))
 
 module _ {D : Type 0} (d : disk.Ghosts D) (world : World) (file : List ℕ) where
   -- Any history that left the file goes on with what a task does to the event there, and the answer is that of the event at its end. Or

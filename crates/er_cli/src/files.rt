@@ -4,7 +4,8 @@ ghost use Rattle.er_event.specs.declared.commands.TheConstants.{MAX_SERIAL};
 ghost use Rattle.er_rules.specs.Sound.{IsSound};
 ghost use Rattle.er_event.specs.Sound.{AreLimits};
 ghost use Rattle.er_desk.specs.Asking.{Asks, AsksSome};
-ghost use Rattle.er_desk.specs.Desk.{desk_state, state};
+ghost use Rattle.sqlite.specs.State.{HasCleanDisk};
+ghost use Rattle.er_desk.specs.Desk.{HoldsOwnEvent, desk_state, state};
 ghost use Rattle.er_desk.specs.Run.{no_session};
 ghost use Rattle.er_desk.specs.History.{new_point};
 ghost use Rattle.er_desk.specs.Reply.{receipt};
@@ -133,7 +134,7 @@ fn make<H: Host, O: Print, E: Print>(
     err: &mut E,
 ) -> Ran<H::File>
     requires shut { IsTrue (H.is_shut host.old) }
-    ensures { EndsLine H.File.Disk (H.world host.old) path.now result.left
+    ensures { EndsLine H.File.Disk (H.world host.old) (H.got host.new) path.now result.left
         (prints (O.printed out.old) (O.printed out.new)
         (E.printed err.old) (E.printed err.new) result.status) (Init name.now rounds cut) }
 {
@@ -156,8 +157,9 @@ fn listen<H: Host, S: Alter, O: Print, E: Print>(
     err: &mut E,
 ) -> u8
     ensures { AsksSome S.Store desk.old
-        (ServesClients (prints (O.printed out.old) (O.printed out.new)
-        (E.printed err.old) (E.printed err.new) result) count ((H.world host.old).coming port)) desk.new }
+        (ServesClients (HasCleanDisk (state S.Store desk.new) × HoldsOwnEvent S.Store desk.old)
+        (prints (O.printed out.old) (O.printed out.new) (E.printed err.old) (E.printed err.new) result)
+        port count ((H.world host.old).coming port) (H.got host.new)) desk.new }
 {
     // Where nobody is listened to, nothing is asked of the file: this tells the proof.
     desk.asks_nothing();
@@ -167,7 +169,9 @@ fn listen<H: Host, S: Alter, O: Print, E: Print>(
     match host.listen(port) {
         Ok((visitors, at)) => {
             let mut visitors = visitors;
-            serve_all(alloc, &routes, desk, &mut visitors, at, count, out)
+            let status = serve_all(alloc, &routes, desk, &mut visitors, at, count, out);
+            host.leave(visitors);
+            status
         }
         Err(_error) => end_with(err, CANNOT_LISTEN, DEVICE),
     }
@@ -185,7 +189,7 @@ fn do_task<H: Host, S: Alter, O: Print, E: Print>(
     requires sound { IsSound desk.old.event }
     requires low { desk.old.serial ≤ MAX_SERIAL }
     requires ready { IsFalse (desk_state desk.old).needs_reopen }
-    ensures { Does S.Store (H.world host.old) desk.old task desk.new (prints (O.printed out.old) (O.printed out.new)
+    ensures { Does S.Store (H.world host.old) (H.got host.new) desk.old task desk.new (prints (O.printed out.old) (O.printed out.new)
         (E.printed err.old) (E.printed err.new) result) }
 {
     match task {
@@ -207,7 +211,7 @@ fn do_and_close<H: Host, O: Print, E: Print>(
     requires sound { IsSound desk.event }
     requires low { desk.serial ≤ MAX_SERIAL }
     requires ready { IsFalse (desk_state desk).needs_reopen }
-    ensures { (last : _) × Does over_files (H.world host.old) desk task last (prints (O.printed out.old)
+    ensures { (last : _) × Does over_files (H.world host.old) (H.got host.new) desk task last (prints (O.printed out.old)
         (O.printed out.new) (E.printed err.old) (E.printed err.new) result.status)
         × ClosesFile (state over_files last) result.left }
 {
@@ -269,7 +273,7 @@ fn open<H: Host, O: Print, E: Print>(
 ) -> Ran<H::File>
     requires shut { IsTrue (H.is_shut host.old) }
     requires there { (H.world host.old).is_there path.now ≢ Some false }
-    ensures ends { EndsLine H.File.Disk (H.world host.old) path.now result.left
+    ensures ends { EndsLine H.File.Disk (H.world host.old) (H.got host.new) path.now result.left
         (prints (O.printed out.old) (O.printed out.new)
         (E.printed err.old) (E.printed err.new) result.status) (Open task) }
     // Of a file that a history left, the history goes on with what the desk is asked.
@@ -295,7 +299,7 @@ pub fn run_line<H: Host, O: Print, E: Print>(
     err: &mut E,
 ) -> Ran<H::File>
     requires shut { IsTrue (H.is_shut host.old) }
-    ensures ends { EndsLine H.File.Disk (H.world host.old) (file_of line) result.left
+    ensures ends { EndsLine H.File.Disk (H.world host.old) (H.got host.new) (file_of line) result.left
         (prints (O.printed out.old) (O.printed out.new)
         (E.printed err.old) (E.printed err.new) result.status) (action_of line) }
     // Of a file that a history left, the history goes on with what the desk is asked, or the system says that it isn't there; and no other

@@ -1,7 +1,8 @@
 //! What a command line needs of the system that it runs on, and that system itself.
-ghost use Rattle.std.specs.Prelude.{◌≡◌, ◌≤◌, Bool, true, false, Option, Some, None, IsTrue, IfOk, IfSome, is_some};
+ghost use Rattle.std.specs.Prelude.{◌≡◌, ◌⊎◌, ◌≤◌, Bool, true, false, List, [], Option, Some, None, IsTrue, IfOk, IfSome, is_some};
 ghost use Rattle.sqlite_wal.specs.Files.{image_at};
 ghost use Rattle.er_desk.specs.Opening.{OpensImage};
+ghost use Rattle.er_cli.specs.Clients.{Got};
 ghost use Rattle.er_cli.specs.Left.{NeedsNoLog};
 ghost use Rattle.er_cli.specs.World.{World, KeepsListsAndClients, untold};
 
@@ -29,6 +30,9 @@ pub trait Host {
     /// What is there.
     ghost world: { Self → World };
 
+    /// What those got who came, in their order, if that is known.
+    ghost got: { Self → Option (List Got) };
+
     /// No file of an event was opened yet. One is, at most.
     ghost is_shut: { Self → Bool };
 
@@ -52,8 +56,15 @@ pub trait Host {
 
     /// Listens at a port of this machine alone, or at one that is free, and says which.
     fn listen(&mut self, port: u16) -> io::Result<(Self::Visitors, u16)>
-        ensures port { IfOk result (λ it. it.1 ≤ 65535) }
-        ensures coming { IfOk result (λ it. Self.Visitors.coming it.0 ≡ (world self.old).coming port) };
+        ensures range { IfOk result (λ it. it.1 ≤ 65535) }
+        ensures port { IfOk result (λ it. (port ≡ 0) ⊎ (it.1 ≡ port)) }
+        ensures coming { IfOk result (λ it. Self.Visitors.coming it.0 ≡ (world self.old).coming port) }
+        ensures fresh { IfOk result (λ it. IfSome (Self.Visitors.coming it.0)
+            (λ _. Self.Visitors.got it.0 ≡ Some [])) };
+
+    /// Listens no more.
+    fn leave(&mut self, visitors: Self::Visitors)
+        ensures { got self.new ≡ Self.Visitors.got visitors };
 
     /// Removes a log that the opening has made, if nothing is in it. What is left of the file needs no log, and whoever calls still holds it, so
     /// that nobody else writes it.
@@ -88,6 +99,8 @@ impl<'a, S: Start> Host for System<'a, S> {
 
     ghost world = { λ _. untold (image_at S.Start) };
 
+    ghost got = { λ _. None };
+
     ghost is_shut = { λ system. is_some system.start };
 
     fn is_there(&self, path: &str) -> io::Result<bool> {
@@ -111,9 +124,14 @@ impl<'a, S: Start> Host for System<'a, S> {
 
     fn listen(&mut self, port: u16) -> io::Result<(Listening<'a>, u16)> {
         let listener = TcpListener::bind(self.rt, (Ipv4Addr::LOCALHOST, port))?;
-        let at = listener.local_addr()?.port();
+        let at = match port {
+            0 => listener.local_addr()?.port(),
+            _ => port,
+        };
         Ok((Listening::new(self.rt, listener), at))
     }
+
+    fn leave(&mut self, _visitors: Listening<'a>) {}
 
     fn remove_empty(&mut self, log: &NewLog, _left: &Left<FileFrom<S>>)
         ensures { self.new ≡ self.old }

@@ -173,7 +173,7 @@ fn print_usage<O: Print, E: Print>(
 /// Does what the words of a command line ask, and gives the status to end with. The event's file is opened, asked and, once the answer is
 /// written, closed again, so that it holds the event without its log too.
 pub fn run<O: Write, E: Write>(rt: &HostRuntime, words: &[String], out: &mut O, err: &mut E) -> u8
-    ensures { (what : _) × EndsWords ⟦<FileFrom<Wary> as Disk>⟧ (untold (image_at ⟦<Wary as Start>⟧))
+    ensures { (what : _) × EndsWords ⟦<FileFrom<Wary> as Disk>⟧ (untold (image_at ⟦<Wary as Start>⟧)) None
         (map string_bytes words.now) what (prints (O.contents out.old) (O.contents out.new)
         (E.contents err.old) (E.contents err.new) result) }
 {
@@ -192,7 +192,7 @@ pub fn run_from<S: Start, O: Write, E: Write>(
     ensures goes_on { GoesOnWords ⟦<FileFrom<S> as Disk>⟧ (untold (image_at S.Start))
         (map string_bytes words.now) result.left (prints (O.contents out.old) (O.contents out.new)
         (E.contents err.old) (E.contents err.new) result.status) }
-    ensures ends { EndsWords ⟦<FileFrom<S> as Disk>⟧ (untold (image_at S.Start))
+    ensures ends { EndsWords ⟦<FileFrom<S> as Disk>⟧ (untold (image_at S.Start)) None
         (map string_bytes words.now) result.left (prints (O.contents out.old) (O.contents out.new)
         (E.contents err.old) (E.contents err.new) result.status) }
 {
@@ -218,7 +218,7 @@ pub fn run_on<H: Host, O: Print, E: Print>(
         (map string_bytes words.now) result.left (prints (O.printed out.old) (O.printed out.new)
         (E.printed err.old) (E.printed err.new) result.status) }
     // What is done and told over a file that may hold anything, and of which list and which clients.
-    ensures ends { EndsWords H.File.Disk (H.world host.old)
+    ensures ends { EndsWords H.File.Disk (H.world host.old) (H.got host.new)
         (map string_bytes words.now) result.left (prints (O.printed out.old) (O.printed out.new)
         (E.printed err.old) (E.printed err.new) result.status) }
 {

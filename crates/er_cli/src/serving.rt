@@ -128,7 +128,7 @@ pub fn serve_on<S: Alter, W: Write>(
     out: &mut W,
 ) -> u8
     ensures turns { AsksSome S.Store desk.old (ServesAll count result None) desk.new }
-    ensures printed { PrintsSome count (stream (W.contents out.old) (W.contents out.new)) result }
+    ensures printed { PrintsSome 0 count (stream (W.contents out.old) (W.contents out.new)) result }
 {
     // Where nobody is served, nothing is asked of the file: this tells the proof.
     desk.asks_nothing();

@@ -26,6 +26,20 @@ pub struct Queue {
     gone: Option<Vec<Gone>>,
 }
 
+impl Queue {
+    /// The same clients, of whom nobody has got anything yet.
+    pub fn anew(self) -> Queue
+        ensures coming { result.coming ≡ self.coming }
+        ensures got { MatchOption result.gone ⊥ (λ all. all.items ≡ []) }
+    {
+        Queue {
+            alloc: self.alloc,
+            coming: self.coming,
+            gone: Some(Vec::new(self.alloc)),
+        }
+    }
+}
+
 /// With one more at the end.
 fn with_last(gone: Option<Vec<Gone>>, last: Gone) -> Option<Vec<Gone>>
     ensures { IfSome result (λ all. MatchOption gone ⊥ (λ some. all.items ≡ some.items ++ last ∷ [])) }
@@ -116,21 +130,25 @@ pub fn two_clients(alloc: Global) -> Option<Queue> {
     })
 }
 
-/// Whether each of two clients gets its answer, the second on the event that the first one left.
+/// Whether each of the two has got its answer, the second on the event that the first one left.
+pub fn both_are_answered(clients: &Queue) -> Option<bool> {
+    let gone = clients.gone.as_ref()?;
+    Some(
+        gone.len() == 2
+            && gone.iter().zip([TAKEN, SCORED]).all(|(it, due)| !it.has_failed
+                && it.bytes.as_slice() == due.as_bytes()),
+    )
+}
+
+/// Whether they get it over a listener.
 fn are_answered(alloc: Global) -> Option<bool> {
     let mut desk = desk_after(alloc, 3, 0, FOUR)?;
     let routes = Routes::new(alloc).ok()?;
     let mut clients = two_clients(alloc)?;
     let mut out = Vec::new(alloc);
     let status = serve_all(alloc, &routes, &mut desk, &mut clients, 4000, 2, &mut out);
-    let gone = clients.gone.as_ref()?;
-    Some(
-        status == 0
-            && out.as_slice() == b"listening 4000\nserved 2\n".as_slice()
-            && gone.len() == 2
-            && gone.iter().zip([TAKEN, SCORED]).all(|(it, due)| !it.has_failed
-                && it.bytes.as_slice() == due.as_bytes()),
-    )
+    let is_answered = both_are_answered(&clients)?;
+    Some(status == 0 && out.as_slice() == b"listening 4000\nserved 2\n".as_slice() && is_answered)
 }
 
 #[test]

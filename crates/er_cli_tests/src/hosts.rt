@@ -1,9 +1,9 @@
 //! Whole command lines over a host in memory.
 ghost use Rattle.std.specs.Prelude.{◌≡◌, ℕ, List, [], Option, Some, None, is_some};
 ghost use Rattle.er_cli.specs.World.{World};
-ghost use Rattle.er_cli_tests.specs.Room.{room_coming, room_image};
+ghost use Rattle.er_cli_tests.specs.Room.{room_coming, room_got, room_image};
 
-use crate::clients::{Queue, two_clients};
+use crate::clients::{Queue, both_are_answered, two_clients};
 use er_cli::{Host, Left, NewLog, Ran, run_on};
 use er_desk::Opened;
 use sqlite::{Connection, Error, ErrorCode, Files, Options};
@@ -21,6 +21,8 @@ struct Room {
     is_there: bool,
     list: Vec<u8>,
     visitors: Option<Queue>,
+    /// Those who were listened to.
+    gone: Option<Queue>,
 }
 
 impl Host for Room {
@@ -36,6 +38,8 @@ impl Host for Room {
       list = λ _. Some room.list.items;
       coming = λ _. room_coming room.visitors;
     } };
+
+    ghost got = { λ room. room_got room.gone };
 
     ghost is_shut = { λ room. is_some room.files };
 
@@ -66,11 +70,15 @@ impl Host for Room {
         Ok(bytes)
     }
 
-    fn listen(&mut self, _port: u16) -> io::Result<(Queue, u16)> {
+    fn listen(&mut self, port: u16) -> io::Result<(Queue, u16)> {
         match self.visitors.take() {
-            Some(queue) => Ok((queue, 4000)),
+            Some(queue) => Ok((queue.anew(), if port == 0 { 4000 } else { port })),
             None => Err(ErrorKind::AddrInUse.into()),
         }
+    }
+
+    fn leave(&mut self, visitors: Queue) {
+        self.gone = Some(visitors);
     }
 
     fn remove_empty(&mut self, _log: &NewLog, _left: &Left<Memory>)
@@ -101,11 +109,16 @@ fn left_by(
         is_there,
         list: Vec::from_slice(alloc, b"name\nAna\nBo\n").ok()?,
         visitors: two_clients(alloc),
+        gone: None,
     };
     let (mut out, mut err) = (Vec::new(alloc), Vec::new(alloc));
     let words = words(alloc, line)?;
     let Ran { status, left } = run_on(alloc, &mut room, words.as_slice(), &mut out, &mut err);
-    if status != 0 || out.as_slice() != answer.as_bytes() || !err.is_empty() {
+    let are_served = match &room.gone {
+        Some(queue) => both_are_answered(queue)?,
+        None => !line.starts_with("serve"),
+    };
+    if status != 0 || out.as_slice() != answer.as_bytes() || !err.is_empty() || !are_served {
         return None;
     }
     match left {
@@ -155,6 +168,7 @@ fn is_absent(alloc: Global) -> Option<bool> {
         is_there: false,
         list: Vec::new(alloc),
         visitors: None,
+        gone: None,
     };
     let (mut out, mut err) = (Vec::new(alloc), Vec::new(alloc));
     let words = words(alloc, "start friday.event")?;

@@ -1,4 +1,4 @@
-use Rattle.std.proofs.Common.{inl, inr}
+use Rattle.std.proofs.Common.{inl, inr, None}
 use Rattle.er_cli.proofs.{GoingOn.{task_goes_on, unopened_goes_on}, Hosting.does_before, Leaving.not_opened}
 use Rattle.er_cli.proofs.files.open.Goals as goal
 
@@ -22,7 +22,7 @@ returns-in-Err-clause-goes_on g c new first ends was =
     let world = g.H.Host.world c.args.host.now in
     let image = world.image c.args.path.now in
     rw c.tell_no_desk.ensures.left (
-    unopened_goes_on law image new first ends was _ c.clear_fault.result.left world _ c.args.task c.in-Err.fault
+    unopened_goes_on law image new first ends was _ c.clear_fault.result.left world None _ c.args.task c.in-Err.fault
     c.clear_fault.result.why
     c.clear_fault.ensures.why c.clear_fault.ensures.left
     (c.in-Err.ensures.opens.found first was.left (law new first.point ends was.begins was.history).sound) c.in-Err.ensures.opens.left
@@ -31,7 +31,7 @@ returns-in-Err-clause-goes_on g c new first ends was =
 pub returns-in-Ok-clause-ends : goal.returns-in-Ok-clause-ends
 returns-in-Ok-clause-ends g c =
     let it = c.do_and_close.ensures in
-    inl (c.requires.there, c.in-Ok.desk, it.0, c.in-Ok.ensures.opens, does_before _ _ _ c.open_desk.ensures.others _ _ _ c.args.task it.1, it.2)
+    inl (c.requires.there, c.in-Ok.desk, it.0, c.in-Ok.ensures.opens, does_before _ _ _ c.open_desk.ensures.others _ _ _ _ c.args.task it.1, it.2)
 
 pub returns-in-Ok-clause-goes_on : goal.returns-in-Ok-clause-goes_on
 returns-in-Ok-clause-goes_on g c new first ends was =
@@ -39,10 +39,10 @@ returns-in-Ok-clause-goes_on g c new first ends was =
     let world = g.H.Host.world c.args.host.now in
     let image = world.image c.args.path.now in
     let it = c.do_and_close.ensures in
-    task_goes_on law image new first ends was _ c.do_and_close.result.left world _ c.args.task c.in-Ok.desk it.0 c.in-Ok.ensures.opens.ready
+    task_goes_on law image new first ends was _ c.do_and_close.result.left world _ _ c.args.task c.in-Ok.desk it.0 c.in-Ok.ensures.opens.ready
     (record {
       finds = c.in-Ok.ensures.opens.found first was.left (law new first.point ends was.begins was.history).sound;
       sees =
           c.in-Ok.ensures.opens.kept;
     })
-    (does_before _ _ _ c.open_desk.ensures.others _ _ _ c.args.task it.1) it.2
+    (does_before _ _ _ c.open_desk.ensures.others _ _ _ _ c.args.task it.1) it.2

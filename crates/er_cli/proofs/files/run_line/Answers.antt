@@ -33,7 +33,7 @@ returns-in-Init-clause-goes_on g c =
     rw (sym c.as_str-path.ensures) (
     init_goes_on g.H.File.Disk (g.H.Host.world c.args.host.now) c.as_str-path.result.now c.make.result.left
     (prints (g.O.Print.printed c.args.out.now) (g.O.Print.printed c.make.new.out) (g.E.Print.printed c.args.err.now)
-    (g.E.Print.printed c.make.new.err) c.make.result.status)
+    (g.E.Print.printed c.make.new.err) c.make.result.status) (g.H.Host.got c.make.new.host)
     c.as_slice.result.now c.in-Init.rounds c.in-Init.cut c.make.ensures
     )
     )
