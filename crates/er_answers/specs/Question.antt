@@ -5,7 +5,7 @@ use Rattle.er_event.specs.declared.refusals.Refusal.{Refusal}
 use Rattle.er_event.specs.declared.refusals.Refusal.TheVariants.{Memory, NoSuchMatch}
 use Rattle.er_event.specs.declared.slips.SlipRow.{SlipRow}
 use Rattle.er_event.specs.Event.{EventValue}
-use Rattle.er_json.specs.Slip.{slip_text}
+use Rattle.er_paper.specs.Slip.{slip_text}
 use Rattle.er_paper.specs.Texts.{bracket_text, pairings_text, players_text, rows_text}
 use Rattle.er_paper.specs.Tables.{players_csv, results_csv}
 use Rattle.er_rank.specs.declared.rows.Row.{Row}

@@ -5,8 +5,8 @@ use Rattle.er_answers.specs.declared.question.Question.{Question}
 use Rattle.er_answers.specs.declared.question.Question.TheVariants as question
 use Rattle.er_answers.specs.declared.question.View.{View}
 use Rattle.er_answers.specs.declared.question.View.TheVariants as view
-use Rattle.er_values.specs.declared.values.ExportKind.{ExportKind}
-use Rattle.er_values.specs.declared.values.ExportKind.TheVariants as list
+use Rattle.er_words.specs.declared.values.ExportKind.{ExportKind}
+use Rattle.er_words.specs.declared.values.ExportKind.TheVariants as list
 use Rattle.er_words.specs.Fields.{script_line}
 use Rattle.er_words.specs.declared.line.Line.{Line}
 use Rattle.er_words.specs.declared.line.Line.TheVariants.{Init, Enrol, Import, Start, Pair, Result as ReportResult, Correct, Drop, Cut}

@@ -7,3 +7,5 @@ mod Fields
 mod Lines
 mod ReadBack
 mod Examples
+mod SlipLemmas
+mod SlipExamples

@@ -2,7 +2,7 @@
 --
 -- Texts has the printed texts, whose columns are in Column. Tables are the players and the results as fields, Csv the
 -- records of a text, Reading what such a text is read as, or its first bad row, and ReadBack that an export is read as
--- what was written. A slip as JSON stands in er_json.
+-- what was written. Slip is a match as JSON, and the games of one that is handed in.
 --
 -- What private functions alone cite lies in `inside`.
 pub mod Column
@@ -11,4 +11,5 @@ pub mod Csv
 pub mod Tables
 pub mod Reading
 pub mod ReadBack
+pub mod Slip
 pub mod inside

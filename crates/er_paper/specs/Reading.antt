@@ -15,7 +15,7 @@ use Rattle.er_paper.specs.declared.imports.CsvFault.TheVariants.{BadHeading, Bad
 use Rattle.er_paper.specs.declared.imports.PlayerLine.{PlayerLine}
 use Rattle.er_paper.specs.declared.imports.ResultLine.{ResultLine}
 use Rattle.er_paper.specs.Csv.{HasRecords}
-use Rattle.er_json.specs.Slip.{games_with}
+use Rattle.er_paper.specs.Slip.{games_with}
 use Rattle.er_paper.specs.Tables.{players_heading, results_heading}
 
 -- ---- fields

@@ -10,13 +10,14 @@ mod pairings;
 mod players;
 mod records;
 mod short;
+mod slips;
 mod standings;
 
 pub use brackets::bracket_text;
-pub use er_json::{SlipFault, read_slip, slip_json};
 pub use exports::{players_csv, results_csv};
 pub use imports::{CsvFault, PlayerLine, ResultLine, read_players_csv, read_results_csv};
 pub use pairings::pairings_text;
 pub use players::players_text;
 pub use short::{ROOM, ShortText};
+pub use slips::{SlipFault, read_slip, slip_json};
 pub use standings::{rows_text, standings_text};

@@ -8,7 +8,7 @@ use Rattle.std.specs.Io.KnownBytes.{Keeps}
 use Rattle.sqlite_trees.specs.declared.store.Store.{Ghosts}
 use Rattle.er_event.specs.{declared.refusals.Refusal.Refusal, declared.refusals.Refusal.TheVariants.{Memory}}
 use Rattle.er_event.specs.{declared.scores.Games.Games, declared.commands.Command.TheVariants.{Result as ReportResult}}
-use Rattle.er_json.specs.Slip.{slip_games}
+use Rattle.er_paper.specs.Slip.{slip_games}
 use Rattle.er_store.specs.Fault.{IsFault}
 use Rattle.er_desk.specs.declared.desk.Desk.{Desk}
 use Rattle.er_desk.specs.Asking as desk

@@ -4,7 +4,7 @@ use Rattle.std.proofs.Common.{get_or, All, slice_range, Option, Some, None, Resu
 use Rattle.std.proofs.{Common.{length-append, length-drop, append-nil}, lemmas.List.{drop-append-le, drop-take, take-take, take-append-le}}
 use Rattle.std.proofs.{lemmas.List.{length-take-le, length-take}, lemmas.Bool.Decides.nat_tests, lemmas.Str.IsUtf8-take}
 use Rattle.std.specs.{Str.{IsUtf8, IsCharBoundary}, Io.KnownBytes.{Consumes, IsAtEnd}}
-use Rattle.er_json.specs.Slip.{slip_games}
+use Rattle.er_paper.specs.Slip.{slip_games}
 use Rattle.httparse.specs.{Grammar.{RequestHead, ReadsRequest}, Spans.{span_bytes, IsHeaderWithin, IsRequestAt}}
 use Rattle.httparse.specs.{declared.spans.HeaderSpan.HeaderSpan, declared.spans.RequestSpans.RequestSpans}
 use Rattle.httparse.proofs.GrammarLemmas.{ReadsRequest-append}

@@ -7,7 +7,7 @@ use Rattle.er_event.specs.{declared.events.Phase.TheVariants.Swiss, declared.pla
 use Rattle.er_event.specs.{declared.commands.Command.Command, declared.refusals.Refusal.TheVariants.{AlreadyReported, BadScore, NotSwiss}}
 use Rattle.er_event.specs.declared.refusals.Refusal.TheVariants.{NoSuchMatch, IsBye, SerialFull, Memory, Store, NeedsReopen}
 use Rattle.er_event.specs.{declared.refusals.Cause.TheVariants.Refused, Change.with_score, Event.EventValue, Slip.slip_of}
-use Rattle.er_json.specs.Slip.{slip_games, slip_text}
+use Rattle.er_paper.specs.Slip.{slip_games, slip_text}
 use Rattle.er_paper.specs.Texts.{pairings_text}
 use Rattle.er_desk.specs.Reply.{IsDue}
 use Rattle.er_slips.specs.{declared.request.fields.TheConstants.MAX_BODY, declared.request.head.TheConstants.{MAX_HEAD, MAX_FIELDS}}

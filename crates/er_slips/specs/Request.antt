@@ -8,7 +8,7 @@ use Rattle.std.specs.Str.Parse.{digits_value}
 use Rattle.httparse.specs.Grammar.{RequestHead}
 use Rattle.httparse.specs.Spans.{name_and_value}
 use Rattle.er_event.specs.declared.scores.Games.{Games}
-use Rattle.er_json.specs.Slip.{slip_games}
+use Rattle.er_paper.specs.Slip.{slip_games}
 use Rattle.er_slips.specs.declared.request.fields.TheConstants.{MAX_BODY}
 use Rattle.er_slips.specs.declared.request.routes.Pattern.{Pattern}
 use Rattle.er_slips.specs.declared.request.routes.Pattern.TheVariants as pattern

@@ -1,7 +1,7 @@
 ghost use Rattle.std.specs.Prelude.{◌≡◌, ℕ, List, All, map, length, IfOk, IfSome};
 ghost use Rattle.httparse.specs.Grammar.{RequestHead};
 ghost use Rattle.httparse.specs.Spans.{header_bytes, IsHeaderWithin, IsRequestAt, IsRequestWithin};
-ghost use Rattle.er_json.specs.Slip.{slip_games};
+ghost use Rattle.er_paper.specs.Slip.{slip_games};
 ghost use Rattle.er_slips.specs.Request.{serves, next_of, report_request};
 ghost use Rattle.er_slips.specs.inside.Telling.{IsShort, IsDueUnlessMemory, TellsRequest};
 

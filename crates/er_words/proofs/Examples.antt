@@ -1,9 +1,9 @@
 -- A line of each subcommand, and what is wrong with others, as literals.
 use Rattle.std.proofs.Common.{◌≡◌, List, ℕ, [], ◌∷◌, codes, Some, refl}
 use Rattle.std.specs.Prelude.{replicate}
-use Rattle.er_values.specs.{Values.seed_of, declared.values.ExportKind.TheVariants.Results}
-use Rattle.er_values.specs.declared.usage.UsageFault.TheVariants.{UnknownSubcommand, LeadingDash, TooFew, TooMany, BadNumber, BadSeed}
-use Rattle.er_values.specs.declared.usage.UsageFault.TheVariants.{BadCount, BadKind}
+use Rattle.er_words.specs.{Values.seed_of, declared.values.ExportKind.TheVariants.Results}
+use Rattle.er_words.specs.declared.usage.UsageFault.TheVariants.{UnknownSubcommand, LeadingDash, TooFew, TooMany, BadNumber, BadSeed}
+use Rattle.er_words.specs.declared.usage.UsageFault.TheVariants.{BadCount, BadKind}
 use Rattle.er_words.specs.{Line.line_of, Usage.fault_of}
 use Rattle.er_words.specs.declared.line.Line.TheVariants as line
 

@@ -7,8 +7,8 @@ use Rattle.er_words.specs.{declared.line.Line.Line, declared.line.LineFault.Line
 use Rattle.er_words.specs.declared.line.LineFault.TheVariants.{Usage}
 use Rattle.er_words.specs.Line.{is_option, line_of, split_of}
 use Rattle.er_words.specs.{Usage.{ReadsWords, fault_of, fault_at}, inside.Usage.ReadsNamed}
-use Rattle.er_values.specs.declared.usage.UsageFault.{UsageFault}
-use Rattle.er_values.specs.declared.usage.UsageFault.TheVariants.{LeadingDash, UnknownSubcommand}
+use Rattle.er_words.specs.declared.usage.UsageFault.{UsageFault}
+use Rattle.er_words.specs.declared.usage.UsageFault.TheVariants.{LeadingDash, UnknownSubcommand}
 use Rattle.er_words.specs.Fields.{fields_of, with_file, script_words}
 
 position_or_len-map : {X Y : Type 0} (p : Y → Bool) (f : X → Y) (xs : List X)

@@ -8,7 +8,7 @@ use Rattle.er_words.specs.declared.line.Line.TheVariants.{Init, Enrol, Import, S
 use Rattle.er_words.specs.declared.line.Line.TheVariants.{Playoff}
 use Rattle.er_words.specs.declared.line.Line.TheVariants.{Standings, Players, Slips, Bracket, Export, Serve, Migrate}
 use Rattle.er_event.specs.declared.scores.Games.{Games}
-use Rattle.er_values.specs.Kinds.{Kind, Text, SmallNumber, Number, Seed, Count, ListKind, score_kinds, MadeOf, made_of, values_of}
+use Rattle.er_words.specs.Kinds.{Kind, Text, SmallNumber, Number, Seed, Count, ListKind, score_kinds, MadeOf, made_of, values_of}
 
 -- a subcommand: its name, what the words after it have to be, and the line that their values make
 pub record Subcommand : Type 0 where

@@ -1,9 +1,9 @@
 -- What is at fault in words that are no line: the first thing that is.
 use Rattle.std.specs.Prelude.{◌≡◌, ℕ, List, Option, Some, None, Result, Ok, Err}
 use Rattle.std.specs.List.{position}
-use Rattle.er_values.specs.declared.usage.UsageFault.{UsageFault}
-use Rattle.er_values.specs.declared.usage.UsageFault.TheVariants.{UnknownSubcommand, LeadingDash}
-use Rattle.er_values.specs.Usage.{values_fault}
+use Rattle.er_words.specs.declared.usage.UsageFault.{UsageFault}
+use Rattle.er_words.specs.declared.usage.UsageFault.TheVariants.{UnknownSubcommand, LeadingDash}
+use Rattle.er_words.specs.Faults.{values_fault}
 use Rattle.er_words.specs.declared.line.Line.{Line}
 use Rattle.er_words.specs.declared.line.LineFault.{LineFault}
 use Rattle.er_words.specs.declared.line.LineFault.TheVariants.{Usage, Memory}

@@ -3,7 +3,7 @@ ghost use Rattle.er_words.specs.Fields.{fields_of, script_words};
 ghost use Rattle.er_words.specs.Usage.{ReadsWords};
 
 use crate::line::{Line, LineFault, read_fields};
-use er_values::UsageFault;
+use crate::usage::UsageFault;
 use std::alloc::{AllocError, Global};
 
 /// The fields of a script's line, with a TAB between two.

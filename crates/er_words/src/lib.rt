@@ -5,9 +5,12 @@
 mod fields;
 mod line;
 mod paths;
+mod usage;
+mod values;
 mod words;
 
-pub use er_values::{ExportKind, UsageFault};
 pub use fields::read_line;
 pub use line::{Line, LineFault, read_words};
 pub use paths::FilePath;
+pub use usage::UsageFault;
+pub use values::ExportKind;

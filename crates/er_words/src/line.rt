@@ -1,16 +1,15 @@
 ghost use Rattle.std.specs.Prelude.{◌≡◌, ℕ, MatchResult, None, Some, codes, map, string_bytes};
 ghost use Rattle.std.specs.List.{position};
-ghost use Rattle.er_values.specs.declared.usage.UsageFault.TheVariants.{LeadingDash};
+ghost use Rattle.er_words.specs.declared.usage.UsageFault.TheVariants.{LeadingDash};
 ghost use Rattle.er_words.specs.Line.{file_kinds, is_option, report_kinds, with_games};
 ghost use Rattle.er_words.specs.Usage.{ReadsWords};
 ghost use Rattle.er_words.specs.inside.Usage.{ReadsAs, ReadsNamed, report};
 
 use crate::paths::FilePath;
+use crate::usage::{UsageFault, count, end, list_kind, number, score, seed, small_number, text};
+use crate::values::{ExportKind, name_of};
 use crate::words::{option_at, split_words};
 use er_event::{Games, Items};
-use er_values::{
-    ExportKind, UsageFault, count, end, list_kind, name_of, number, score, seed, small_number, text,
-};
 use std::alloc::{AllocError, Global};
 use std::convert::AsStr;
 use thiserror::Error;

@@ -1,7 +1,7 @@
 -- The parts of a complaint.
 use Rattle.std.specs.Prelude.{ℕ, List, ◌++◌, slice_get, unwrap_or}
 use Rattle.er_cli.specs.declared.complaints.TheConstants.{TRY_HELP}
-use Rattle.er_values.specs.declared.usage.UsageFault.{UsageFault}
+use Rattle.er_words.specs.declared.usage.UsageFault.{UsageFault}
 use Rattle.er_cli.specs.Complaints.{complaint_head, place_of, what_is_wrong}
 use Rattle.er_cli.specs.Help.{subcommand_text}
 

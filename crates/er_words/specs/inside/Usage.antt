@@ -1,8 +1,8 @@
 -- The words after a subcommand's name.
 use Rattle.std.specs.Prelude.{ℕ, List, Result, option_map}
 use Rattle.er_event.specs.declared.scores.Games.{Games}
-use Rattle.er_values.specs.Kinds.{Kind, MadeOf, made_of, values_of}
-use Rattle.er_values.specs.Usage.{values_fault}
+use Rattle.er_words.specs.Kinds.{Kind, MadeOf, made_of, values_of}
+use Rattle.er_words.specs.Faults.{values_fault}
 use Rattle.er_words.specs.declared.line.Line.{Line}
 use Rattle.er_words.specs.declared.line.LineFault.{LineFault}
 use Rattle.er_words.specs.Line.{named_line}

@@ -1,2 +1,0 @@
-mod SlipLemmas
-mod Examples

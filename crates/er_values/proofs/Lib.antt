@@ -1,4 +1,0 @@
-mod Numbers
-mod Seeds
-mod Examples
-mod Taking

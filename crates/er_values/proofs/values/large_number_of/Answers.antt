@@ -1,7 +1,0 @@
-use Rattle.std.proofs.Common.{◌∙◌, sym, refl}
-use Rattle.er_values.proofs.Numbers.{number_of-parsed}
-use Rattle.er_values.proofs.values.large_number_of.Goals as goal
-
-pub returns-then-is_number : goal.returns-then-is_number
-returns-then-is_number c = c.ok.ensures.value ∙ number_of-parsed 32 4294967296 refl c.args.word.now
-    (sym c.is_number.ensures ∙ c.if-is_number.true) _ c.parse.ensures.value.0
