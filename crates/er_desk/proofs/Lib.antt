@@ -7,7 +7,6 @@ mod Adopting
 mod Opened
 mod Slips
 mod NextSession
-mod Resting
 mod Asking
 mod Moving
 mod Looking

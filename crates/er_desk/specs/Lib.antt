@@ -3,8 +3,8 @@
 --
 -- Headline says just that, in few lines, each of which a public call cites; begin there. Reply says which replies to a
 -- command are lawful, Desk what one command does to a desk, and Run what a list of them does. History is many sessions,
--- one after the other, Resuming sessions that send from one list, Asking what a call does to the file, Opening why a file
--- was not opened, and Closing what it holds once it is closed. Migrating says what a desk answers that moves its tables to
+-- one after the other, Resuming sessions that send from one list, Asking what a call does to the file, and Opening why a file
+-- was not opened. Migrating says what a desk answers that moves its tables to
 -- version 2, and Migrations what histories with such moves come to.
 --
 -- Doubt is what becomes of the command that a stop left in doubt.
@@ -20,7 +20,6 @@ pub mod Headline
 pub mod History
 pub mod Resuming
 pub mod Opening
-pub mod Closing
 pub mod Asking
 pub mod Migrations
 pub mod Migrating

@@ -1,12 +1,11 @@
 ghost use Rattle.std.specs.Prelude.{◌≡◌};
 ghost use Rattle.sqlite.specs.Files.{over_files};
 ghost use Rattle.er_store.specs.Store as tables;
-ghost use Rattle.er_desk.specs.Closing.{IsClosedAs};
 ghost use Rattle.er_desk.specs.Desk.{HoldsOwnEvent, placed_of, state, desk_state};
 ghost use Rattle.er_desk.specs.Headline.{RecoversJust};
 
 use crate::desk::Desk;
-use sqlite::{Connection, Error, FileStore, Files};
+use sqlite::{Connection, FileStore};
 use sqlite_disk::Disk;
 
 /// Gives the connection of a file's desk back as it is. Others call this one, so that the proof of a generic call at the store in a file
@@ -18,16 +17,4 @@ pub fn into_connection<D: Disk + Drop>(desk: Desk<FileStore<D>>) -> Connection<F
         → RecoversJust (state over_files desk) (placed_of (desk_state desk)) }
 {
     desk.close()
-}
-
-/// Closes the desk of a file: copies the log into the database file, and gives the two back. Where that fails, the store comes back.
-pub fn close_file<D: Disk + Drop>(
-    desk: Desk<FileStore<D>>,
-) -> Result<Files<D>, (Error, FileStore<D>)>
-    // On a clean disk the database file, with its log and without it, holds the event and the serial, as the two read now and as a crash
-    // may leave them: the next opening finds just these. Where it fails, a crash leaves what it could leave before.
-    ensures { IsClosedAs desk result }
-{
-    let conn = into_connection(desk);
-    conn.close_files()
 }

@@ -8,7 +8,7 @@ pub mod laws;
 mod opening;
 mod stored;
 
-pub use closing::{close_file, into_connection};
+pub use closing::into_connection;
 pub use desk::{Desk, Reply};
 pub use opening::{
     OpenFault, Opened, adopt_file, adopt_opened, create_in_opened, open, open_files,
