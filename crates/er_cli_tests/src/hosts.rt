@@ -1,7 +1,9 @@
 //! Whole command lines over a host in memory.
-ghost use Rattle.std.specs.Prelude.{◌≡◌, ℕ, List, [], Option, Some, None, is_some};
+ghost use Rattle.std.specs.Prelude.{◌≡◌, ℕ, List, [], map, option_and_then, Option, Some, None, is_some};
 ghost use Rattle.er_cli.specs.World.{World};
-ghost use Rattle.er_cli_tests.specs.Room.{room_coming, room_got, room_image};
+ghost use Rattle.std.specs.Option.{option_map};
+ghost use Rattle.er_cli.specs.Clients.{Got};
+ghost use Rattle.er_cli_tests.specs.Room.{room_image};
 
 use crate::clients::{Queue, both_are_answered, two_clients};
 use er_cli::{Host, Left, NewLog, Ran, run_on};
@@ -36,10 +38,11 @@ impl Host for Room {
       image = λ _. room_image room.files;
       is_there = λ _. Some room.is_there;
       list = λ _. Some room.list.items;
-      coming = λ _. room_coming room.visitors;
+      coming = λ _. option_map (λ queue. map (λ input. input.items) queue.coming.items) room.visitors;
     } };
 
-    ghost got = { λ room. room_got room.gone };
+    ghost got = { λ room. option_and_then (λ queue. option_map (λ gone. map (λ it.
+        record { bytes = Some it.bytes.items; failed = it.has_failed }) gone.items) queue.gone) room.gone };
 
     ghost is_shut = { λ room. is_some room.files };
 
