@@ -98,6 +98,15 @@ fn words(alloc: Global, line: &str) -> Option<Vec<String>> {
     Some(words)
 }
 
+/// Whether a line prints this and no error, and those whom it served got their answers.
+fn is_answered(room: &Room, line: &str, out: &[u8], err: &[u8], answer: &str) -> bool {
+    let are_served = match &room.gone {
+        Some(queue) => both_are_answered(queue) == Some(true),
+        None => !line.starts_with("serve"),
+    };
+    out == answer.as_bytes() && err.is_empty() && are_served
+}
+
 /// The files that a command line leaves, where it ends well and prints this and no error.
 fn left_by(
     alloc: Global,
@@ -117,11 +126,7 @@ fn left_by(
     let (mut out, mut err) = (Vec::new(alloc), Vec::new(alloc));
     let words = words(alloc, line)?;
     let Ran { status, left } = run_on(alloc, &mut room, words.as_slice(), &mut out, &mut err);
-    let are_served = match &room.gone {
-        Some(queue) => both_are_answered(queue)?,
-        None => !line.starts_with("serve"),
-    };
-    if status != 0 || out.as_slice() != answer.as_bytes() || !err.is_empty() || !are_served {
+    if status != 0 || !is_answered(&room, line, &out, &err, answer) {
         return None;
     }
     match left {

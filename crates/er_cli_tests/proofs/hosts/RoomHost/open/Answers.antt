@@ -1,4 +1,4 @@
-use Rattle.std.proofs.Common.{◌≡◌, Option, Some, sym, subst, refl, ◌∙◌}
+use Rattle.std.proofs.Common.{Option, Some, sym, subst, refl, ◌∙◌}
 use Rattle.sqlite.specs.Start.{FindsIn}
 use Rattle.sqlite.specs.Files.{file_state}
 use Rattle.sqlite_disk.specs.declared.Files.{Files}
