@@ -154,7 +154,7 @@ fn are_answered(alloc: Global) -> Option<bool> {
         ("enrol friday.event Di", "ok 4\n"),
         ("start friday.event", "ok 5\n"),
         (
-            "pair friday.event 1 000000000000000000000000000000000000000000000000000000000000002a",
+            "pair friday.event 1 0000000000000000000000000000000000000000000000000000000000000000",
             "ok 6\n",
         ),
         ("serve friday.event 0 2", "listening 4000\nserved 2\n"),
