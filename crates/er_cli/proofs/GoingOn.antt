@@ -9,7 +9,7 @@ use Rattle.sqlite_store.specs.declared.store.FileStore.{FileStore}
 use Rattle.er_event.specs.{declared.commands.Command.Command, declared.commands.Receipt.Receipt, declared.refusals.Refusal.Refusal}
 use Rattle.er_event.specs.{declared.refusals.Refusal.TheVariants.{BadSetup, Memory, NoEvent}, Event.EventValue}
 use Rattle.er_rank.specs.declared.rows.Row.{Row}
-use Rattle.er_store.specs.{Fault.{IsFault}, Representing.{AfterCrash, RepresentsAt}, Layout.{Layout, version_of}}
+use Rattle.er_store.specs.{Fault.{IsFault}, Representing.{AfterCrash, RepresentsIn}}
 use Rattle.er_desk.specs.{declared.desk.Desk.Desk, Desk.{Point, Placed, DeskState, Outcome, Reads, HoldsOwnEvent, point_of}}
 use Rattle.er_desk.specs.Desk.{IsStoredAt, placed_at, placed_of, running_at, desk_state, state, version_in}
 use Rattle.er_desk.specs.{Reply.{Reply, receipt}, Run.{Session, IsStoredEnd, no_session}, History.{Ended}}
@@ -17,7 +17,7 @@ use Rattle.er_desk.specs.{Files.HasMade, Headline.{FindsAgain, IsBeginning, Reco
 use Rattle.sqlite_trees.specs.declared.store.Store.{Ghosts}
 use Rattle.er_desk.specs.{Asking.{Asks, GoesOnFrom, NextSessions}}
 use Rattle.er_desk.specs.{History.new_point, Opening.HoldsNothing}
-use Rattle.er_event.specs.Sound.{IsSetUp}
+use Rattle.er_event.specs.{Sound.{IsSetUp}, Version.{IsVersion}}
 use Rattle.er_cli.specs.Clients.{Got}
 use Rattle.er_cli.specs.{Files.{MakesEvent, WorksOn}, Left.{IsClearedOf, ClosesFile, WasOpenedClean}, Next.{GoesTo, RecoversSession}}
 use Rattle.er_cli.specs.World.{World}
@@ -28,7 +28,6 @@ use Rattle.std.proofs.Math.Logic.{∥∥₁_elim}
 use Rattle.sqlite_trees.specs.Props.{Trees-set}
 use Rattle.sqlite.specs.Effect.{Database}
 use Rattle.sqlite_catalog.specs.Listing.{IsSound}
-use Rattle.er_store.specs.Layout.Layout.{Old, New, Moved}
 use Rattle.er_desk.specs.{declared.opening.OpenFault.OpenFault, declared.opening.OpenFault.TheVariants.Unopened as NotOpened}
 use Rattle.er_desk.specs.{declared.opening.OpenFault.TheVariants.Refused as OpenedInVain}
 use Rattle.er_desk.specs.{Opening.{OnRefused, OnUnopened, SparesAt, WhereUnopened, IsCleanFault, HoldsStill, why_of}}
@@ -249,7 +248,7 @@ module _ {D : Type 0} (d : disk.Ghosts D) (image : Image) (first : Placed) (desk
     (found : IsFound d image first desk) (clean : HasCleanDisk (state over_files desk)) where
   -- its tables may be migrated where those of the file may
   pub may_migrate : MayMoveTables image first.point → MayMigrate over_files desk
-  may_migrate may = by shows.represents.layout shows.represents.is shows.represents.represents
+  may_migrate may = by shows.represents.represents.has.tables.known
     where
       again : FindsAgain over_files desk first
       again = found.finds clean
@@ -263,13 +262,14 @@ module _ {D : Type 0} (d : disk.Ghosts D) (image : Image) (first : Placed) (desk
       same : now.trees ≡ may.db
       same = (found.sees may.db may.holds clean shows.is_open).0
 
-      by : (layout : Layout) → version_of layout ≡ version_in desk → RepresentsAt layout now desk.event desk.serial
-          → MayMigrate over_files desk
-      by New is represents = inl (sym is)
-      by Moved is represents = inl (sym is)
-      by Old is represents = inr (may.alone now.schema (subst (IsSound now.schema) same shows.sound)
-          (subst (λ (t : Trees). RepresentsAt Old (record { schema = now.schema; trees = t }) first.point.event first.point.serial) same
-          (subst (λ (p : Placed). RepresentsAt Old now p.point.event p.point.serial) again.found represents)))
+      first_in : RepresentsIn (version_in desk) now first.point.event first.point.serial
+      first_in = subst (λ (p : Placed). RepresentsIn (version_in desk) now p.point.event p.point.serial) again.found shows.represents
+
+      by : IsVersion shows.represents.layout.version → MayMigrate over_files desk
+      by (inr two) = inl (sym shows.represents.is ∙ two)
+      by (inl one) = inr (may.alone now.schema (subst (IsSound now.schema) same shows.sound)
+          (subst (λ (t : Trees). RepresentsIn 1 (record { schema = now.schema; trees = t }) first.point.event first.point.serial) same
+          (subst (λ (v : ℕ). RepresentsIn v now first.point.event first.point.serial) (sym shows.represents.is ∙ one) first_in)))
 
 -- a session goes on from where the history has ended
 module _ (new : Point) (first : Placed) (ends : List Ended) (begins : IsBeginning new) (from : GoesOnFrom new first.point ends) where

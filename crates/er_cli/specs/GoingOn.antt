@@ -11,8 +11,7 @@ use Rattle.er_event.specs.declared.refusals.Refusal.{Refusal}
 use Rattle.er_event.specs.declared.refusals.Refusal.TheVariants.{BadSetup, EventExists}
 use Rattle.er_store.specs.Fault.{IsFault}
 use Rattle.er_store.specs.Layout.{StandsAlone}
-use Rattle.er_store.specs.Layout.Layout.{Old}
-use Rattle.er_store.specs.Representing.{RepresentsAt}
+use Rattle.er_store.specs.Representing.{RepresentsIn}
 use Rattle.er_desk.specs.Desk.{Point, Placed}
 use Rattle.er_desk.specs.Opening.{SparesAt}
 use Rattle.er_desk.specs.Run.{no_session}
@@ -38,7 +37,7 @@ LeadsToVersion question told was now = now ≡ was
 pub record MayMoveTables (image : Image) (point : Point) : Type 0 where
   pub db : Trees
   pub holds : HoldsDatabase image db
-  pub alone : (schema : Schema) → IsSound schema db → RepresentsAt Old (record { schema = schema; trees = db }) point.event point.serial
+  pub alone : (schema : Schema) → IsSound schema db → RepresentsIn 1 (record { schema = schema; trees = db }) point.event point.serial
       → StandsAlone schema
 
 -- The file was opened, this was asked of its event, and it was closed, or could not be. A migration asks no command of it; this is said of

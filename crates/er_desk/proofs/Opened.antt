@@ -39,7 +39,7 @@ module _ {D : Type 0} {g : Ghosts D} (image : Image) where
         represents = λ clean has keyed.
             let same = it.same clean in
             it.represents clean (subst (λ (d : Database). HasTables (version_in desk) d.schema) same.0.now_is has)
-            (subst AreKeyed same.0.now_is keyed);
+            (subst (AreKeyed (version_in desk)) same.0.now_is keyed);
         kept = λ db holds clean is_open.
             sees_unchanged (file_state conn) _ (opened (it.left.clean clean)) (found (it.left.clean clean)) (state over_files desk) db
             holds (it.same clean);

@@ -67,7 +67,8 @@ pub record HasAdopted {S : Type 0} (g : Ghosts S) (old : State) (desk : Desk S g
   pub shows : HasCleanDisk (state g desk) → HasTables (version_in desk) old.now.schema
       → HoldsEvent (version_in desk) old.now desk.event desk.serial
   -- where they have the schema, they represent it
-  pub represents : HasCleanDisk (state g desk) → HasTables (version_in desk) old.now.schema → AreKeyed old.now → HoldsOwnEvent g desk
+  pub represents : HasCleanDisk (state g desk) → HasTables (version_in desk) old.now.schema
+      → AreKeyed (version_in desk) old.now → HoldsOwnEvent g desk
   -- of tables that represent a sound event just that is found, in their version, with the seeds of its standings
   pub found : (placed : Placed) → RepresentsIn placed.version old.now placed.point.event placed.point.serial → IsSound placed.point.event
       → HasCleanDisk (state g desk) → FindsAgain g desk placed

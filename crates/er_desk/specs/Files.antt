@@ -33,7 +33,7 @@ module _ {D : Type 0} {g : Ghosts D} (image : Image) where
         → FindsAgain over_files desk placed
     -- where the tables have the schema, they represent what is found
     pub represents : HasCleanDisk (state over_files desk) → HasTables (version_in desk) (state over_files desk).now.schema
-        → AreKeyed (state over_files desk).now → HoldsOwnEvent over_files desk
+        → AreKeyed (version_in desk) (state over_files desk).now → HoldsOwnEvent over_files desk
     -- no table changes, and a crash leaves just what the file held
     pub kept : (db : Trees) → HoldsDatabase image db → HoldsStill (state over_files desk) db
     pub left : (db : Trees) → HoldsDatabase image db → AfterCrash (state over_files desk) (λ trees. trees ≡ db)

@@ -1,5 +1,4 @@
 -- What one more match of a round or of a stage makes of the tables.
-use Rattle.er_store.proofs.Prelude.{pairing_tree, bracket_tree}
 use Rattle.er_store.proofs.Prelude.{pairing_rows_from, bracket_rows_from, common_steps, ◌≡◌, ◌<◌, ◌+◌, ℕ, zero, suc, ℤ, length, List, []}
 use Rattle.er_store.proofs.Prelude.{◌∷◌, ◌++◌, map, true, refl, sym, ap, ◌∙◌, arith, append-nil, not-suc-le-zero, get_or, take, ◌≤◌}
 use Rattle.er_store.proofs.Prelude.{IsPermutation, map-append, take_all, take_more, Row, Int, put_row, rowid, Database, State, is_int}
@@ -7,7 +6,7 @@ use Rattle.er_store.proofs.Prelude.{Place, rows_in, rows_with, PairingTable, Mat
 use Rattle.er_store.proofs.Prelude.{round_rows, pairing_rows, TallyRow, pairing_columns, stored_pairing, RepresentsWith, IsKeyed, Puts}
 use Rattle.er_store.proofs.Prelude.{Moves}
 use Rattle.er_store.proofs.Prelude.{BringsToWith, all_from_test, test_from_all, BracketTable, BracketRow, with_stage, bracket_row}
-use Rattle.er_store.proofs.Prelude.{stage_rows, bracket_rows, bracket_columns, stored_slot, Layout, version_of}
+use Rattle.er_store.proofs.Prelude.{stage_rows, bracket_rows, bracket_columns, stored_slot, Layout}
 use Rattle.sqlite_trees.proofs.TreeLemmas.{IsTable-put_row, all-put_row}
 use Rattle.er_store.proofs.{Together.{keeps_as, pairings_set, moves_then, row_put, bracket_set}}
 use Rattle.er_store.proofs.{Grouped.{rows_more, pairing_rows_are, newest_more}}
@@ -36,21 +35,21 @@ keyed_put id columns rows keyed = record {
 -- The round has one match more.
 pub pairing_added : (e : EventValue) (before : List Match) (m : Match) (id : ℤ) {l : Layout} {old new : State} {s : ℕ}
     {kept : List TallyRow} → RepresentsWith l old.now (with_round e before) s kept
-    → Puts pairing_tree (stored_pairing id (next_row e before m)) old new
+    → Puts (l.tree PairingTable) (stored_pairing id (next_row e before m)) old new
     → BringsToWith l old new (with_round e (before ++ m ∷ [])) s kept
-pairing_added e before m id {old = old} represents put =
+pairing_added e before m id {l} {old} represents put =
     let row = next_row e before m in
     let all = newest_more pairing_row (λ (r : Round). r.matches) pairing_rows_from pairing_rows_are e.stored (record { matches = before })
     (record { matches = before ++ m ∷ [] }) m refl in
     pairings_set represents (with_round e (before ++ m ∷ [])).stored put.goes
     (row_put represents PairingTable _ (pairing_columns row) _ put refl
     (ap (map pairing_columns) all ∙ map-append pairing_columns (pairing_rows (with_round e before)) (row ∷ [])))
-    (rw put.rows (keyed_put id _ (old.now.trees pairing_tree) represents.has.keyed.pairings))
+    (rw put.rows (keyed_put id _ (old.now.trees (l.tree PairingTable)) represents.has.keyed.pairings))
 
 -- tables that show the same rows of another event represent that one
 pub represents_as : {l : Layout} {db : Database} {e f : EventValue} {s : ℕ} {kept : List TallyRow} → f.rounds ≡ e.rounds
-    → f.players ≡ e.players → ((table : Place) → IsPermutation (rows_in l db table) (rows_with (version_of l) e s kept table)
-    → IsPermutation (rows_in l db table) (rows_with (version_of l) f s kept table)) → RepresentsWith l db e s kept
+    → f.players ≡ e.players → ((table : Place) → IsPermutation (rows_in l db table) (rows_with l.version e s kept table)
+    → IsPermutation (rows_in l db table) (rows_with l.version f s kept table)) → RepresentsWith l db e s kept
     → RepresentsWith l db f s kept
 represents_as rounds players same represents = record {
   low = represents.low;
@@ -140,14 +139,14 @@ slots_none e = grind (arith, common_steps, append-nil, bracket_rows_are, rows_mo
 
 -- The stage has one match more.
 pub slot_added : (e : EventValue) (before : List Match) (m : Match) (id : ℤ) {l : Layout} {old new : State} {s : ℕ} {kept : List TallyRow}
-    → RepresentsWith l old.now (with_stage e before) s kept → Puts bracket_tree (stored_slot id (next_slot e before m)) old new
+    → RepresentsWith l old.now (with_stage e before) s kept → Puts (l.tree BracketTable) (stored_slot id (next_slot e before m)) old new
     → BringsToWith l old new (with_stage e (before ++ m ∷ [])) s kept
-slot_added e before m id {old = old} represents put =
+slot_added e before m id {l} {old} represents put =
     let all = newest_more bracket_row (λ ms. ms) bracket_rows_from bracket_rows_are e.bracket.stages before (before ++ m ∷ []) m refl in
     bracket_set represents (with_stage e (before ++ m ∷ [])).bracket.stages put.goes (row_put represents BracketTable _
     (bracket_columns (next_slot e before m)) _ put refl (ap (map bracket_columns) all
     ∙ map-append bracket_columns (bracket_rows (with_stage e before)) (next_slot e before m ∷ [])))
-    (rw put.rows (keyed_put id _ (old.now.trees bracket_tree) represents.has.keyed.bracket))
+    (rw put.rows (keyed_put id _ (old.now.trees (l.tree BracketTable)) represents.has.keyed.bracket))
 
 -- a stage of no match has no row
 pub no_slot_added : (e : EventValue) {l : Layout} {db : Database} {s : ℕ} {kept : List TallyRow}

@@ -1,10 +1,9 @@
 -- What the reading statements show, and that it is the rows of an event in order.
-use Rattle.er_store.proofs.Prelude.{event_tree, bracket_tree, tally_tree}
 use Rattle.er_store.proofs.Prelude.{Query, common_steps, ◌≡◌, ◌+◌, ◌<◌, ℕ, List, [], ◌∷◌, map, length, get_or, flat_map, refl, sym, ap, ap₂}
 use Rattle.er_store.proofs.Prelude.{subst, ◌∙◌, arith, Ordering, Bool, true, false, cond, None, ordering_then, AllByRecursion}
 use Rattle.er_store.proofs.Prelude.{IsPermutation, IsPermutation-map, All-from_recursion, recursion_from_All, Row, column, eval_all}
-use Rattle.er_store.proofs.Prelude.{IsAnswer, output, Output, overlay, Trees, Term, at_places, Layout, Old, New, Moved, version_of}
-use Rattle.er_store.proofs.Prelude.{players_tree}
+use Rattle.er_store.proofs.Prelude.{IsAnswer, output, Output, overlay, Trees, Term, at_places}
+use Rattle.er_store.proofs.Prelude.{Layout, ◌==◌, if◌then◌else◌, player2_places, player_places, number_value, ◌++◌}
 use Rattle.er_store.proofs.Prelude.{player_shown, by_first, by_first_two, Lists, first_columns}
 use Rattle.er_store.proofs.Prelude.{table_query, all-map, value_cmp, ◌≢◌, filter, range_with_len, IsPermutation-sym}
 use Rattle.er_store.proofs.Prelude.{IsPermutation-trans, Error, SqliteFailure, IsAscending, Database, one_permutation}
@@ -13,6 +12,8 @@ use Rattle.er_store.proofs.Prelude.{numbers, numbered_from, event_row, player_ro
 use Rattle.er_store.proofs.Prelude.{bracket_rows, tally_row, tally_rows, stage_rows, totals, event_columns, player_columns, bracket_columns}
 use Rattle.er_store.proofs.Prelude.{tally_columns, event_places, bracket_places, tally_places, RepresentsAt, out_of_memory}
 use Rattle.er_store.proofs.Meaning.{columns, read_terms}
+use Rattle.er_store.proofs.Prelude.{Int, pos}
+use Rattle.sqlite.specs.Term.{lit}
 use Rattle.std.specs.{List.Sorted.IsSorted, Prelude.All}
 use Rattle.std.proofs.{lemmas.List.Sorted.All-permutation, Common.{unwrap_or, is_lt}, Math.ListN.{get_or-map, length-map}}
 use Rattle.sqlite.specs.{Query.output_cmp, declared.error.ErrorCode.TheVariants.OutOfMemory}
@@ -107,10 +108,14 @@ sorted_by_one tree place places = record {
 }
 
 -- a player, of either version
-pub sorted_players : (l : Layout) → IsShownByKeys (players_tree l) (read_terms l) (0 ∷ []) (player_shown l) by_first
-sorted_players Old = record { shows = λ r. refl; Keyed = λ o. column o.0 0 ≡ column o.1 0; keyed = λ r. refl; agrees = first_agrees }
-sorted_players New = sorted_by_one 1 0 (2 ∷ 3 ∷ 4 ∷ [])
-sorted_players Moved = sorted_by_one 9 0 (2 ∷ 3 ∷ 4 ∷ [])
+pub sorted_players : (tree version : ℕ) → IsShownByKeys tree (read_terms version) (0 ∷ []) (player_shown version) by_first
+sorted_players tree version = by_version (version == 2)
+  where
+    by_version : (second : Bool) → IsShownByKeys tree (if second then columns player2_places else columns player_places ++ lit
+        (Int (pos 0)) ∷ [])
+        (0 ∷ []) (λ row. if second then at_places player2_places row else at_places player_places row ++ number_value 0 ∷ []) by_first
+    by_version true = sorted_by_one tree 0 (2 ∷ 3 ∷ 4 ∷ [])
+    by_version false = record { shows = λ r. refl; Keyed = λ o. column o.0 0 ≡ column o.1 0; keyed = λ r. refl; agrees = first_agrees }
 
 pub sorted_by_two : (tree first second : ℕ) (places : List ℕ)
     → IsShownByKeys tree (columns (first ∷ second ∷ places)) (first ∷ second ∷ []) (at_places (first ∷ second ∷ places)) by_first_two
@@ -152,16 +157,16 @@ map-same columns inj (x ∷ xs) (y ∷ ys) h = ap₂ ◌∷◌ (inj x y (cc)) (m
 -- ---- the event's row
 
 pub event_exact : (l : Layout) (db : Database) (e : EventValue) (s : ℕ) (listed : List Row) → RepresentsAt l db e s
-    → Lists by_first (map (at_places event_places) (db.trees event_tree)) listed
-    → listed ≡ map event_columns (event_row (version_of l) e s ∷ [])
-event_exact l db e s listed represents h = one_permutation (event_columns (event_row (version_of l) e s)) listed
+    → Lists by_first (map (at_places event_places) (db.trees (l.tree EventTable))) listed
+    → listed ≡ map event_columns (event_row l.version e s ∷ [])
+event_exact l db e s listed represents h = one_permutation (event_columns (event_row l.version e s)) listed
     (IsPermutation-trans _ _ _ (IsPermutation-sym _ _ (represents.has.rows EventTable)) h.same)
 
 -- ---- the players
 
 pub players_exact : (l : Layout) (db : Database) (e : EventValue) (s : ℕ) (listed : List Row) → RepresentsAt l db e s
     → numbers e.players ≡ range_with_len 1 (length e.players)
-    → Lists by_first (map (player_shown l) (db.trees (players_tree l))) listed → listed ≡ map player_columns (player_rows e)
+    → Lists by_first (map (player_shown l.version) (db.trees (l.tree PlayerTable))) listed → listed ≡ map player_columns (player_rows e)
 players_exact l db e s listed represents numbered h =
     listed_by_one _ listed (map player_columns (player_rows e)) (rw (map-map player_columns player_row e.players)
     (numbered_rise (λ p. player_columns (player_row p)) (λ p. refl) 1 e.players numbered)) (represents.has.rows PlayerTable) h
@@ -170,7 +175,7 @@ players_exact l db e s listed represents numbered h =
 
 pub tallies_exact : (l : Layout) (db : Database) (e : EventValue) (s : ℕ) (listed : List Row) → RepresentsAt l db e s
     → numbers e.players ≡ range_with_len 1 (length e.players)
-    → Lists by_first (map (at_places tally_places) (db.trees tally_tree)) listed → listed ≡ map tally_columns (tally_rows e)
+    → Lists by_first (map (at_places tally_places) (db.trees (l.tree TallyTable))) listed → listed ≡ map tally_columns (tally_rows e)
 tallies_exact l db e s listed represents numbered h =
     listed_by_one _ listed (map tally_columns (tally_rows e))
     (rw (map-map tally_columns (λ (p : Player). tally_row p.no (totals e p.no)) e.players)
@@ -194,7 +199,8 @@ stages_rise [] = tt
 stages_rise (ms ∷ later) = (λ k. slots_rise k ms, stages_rise later)
 
 pub bracket_exact : (l : Layout) (db : Database) (e : EventValue) (s : ℕ) (listed : List Row) → RepresentsAt l db e s
-    → Lists by_first_two (map (at_places bracket_places) (db.trees bracket_tree)) listed → listed ≡ map bracket_columns (bracket_rows e)
+    → Lists by_first_two (map (at_places bracket_places) (db.trees (l.tree BracketTable))) listed
+    → listed ≡ map bracket_columns (bracket_rows e)
 bracket_exact l db e s listed represents h =
     let stages = e.bracket.stages in
     let rise = rises_from bracket_columns bracket_row (λ k n. refl) (numbered_from 1) 1 stages (stages_rise stages) in

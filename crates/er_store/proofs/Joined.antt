@@ -1,5 +1,5 @@
 -- What the join of a slip reads of tables that represent an event.
-use Rattle.er_store.proofs.Prelude.{pairing_tree, Layout, Old, New, Moved, players_tree, player_shown}
+use Rattle.er_store.proofs.Prelude.{Layout, player_shown, ◌==◌, player2_places, player_places}
 use Rattle.er_store.proofs.Prelude.{column, is_lawful_name, is_bye, is_at, number_value, ◌≡◌, Bool, true, false, ◌&&◌, cond, if◌then◌else◌}
 use Rattle.er_store.proofs.Prelude.{List}
 use Rattle.er_store.proofs.Prelude.{[], ◌∷◌, ◌++◌, map, filter, flat_map, refl, ap, ap₂, subst, ◌∙◌, arith, list_all, IsPermutation, Binary}
@@ -75,15 +75,17 @@ numbered_as n rows = or_nulls (filter (λ r. is_true (binary (Compare Eq Binary)
 abbrev pub asks : Row → Row → Bool
 asks params p = list_all (holds (params ∷ p ∷ [])) score_tests
 
-pub slip_one : (players : ℕ) (db : Trees) (params p l h : Row) (rows : List Row)
-    → filter (asks params) (db 3) ≡ p ∷ []
+pub slip_one : (pairings players : ℕ) (db : Trees) (params p l h : Row) (rows : List Row)
+    → filter (asks params) (db pairings) ≡ p ∷ []
     → numbered_as (column p 3) (db players) ≡ l ∷ [] → numbered_as (column p 4) (db players) ≡ h ∷ []
-    → IsAnswer (slip_query players) (overlay db []) params rows → rows ≡ eval_all slip_terms (params ∷ p ∷ l ∷ h ∷ []) ∷ []
-slip_one players db params p l h rows one low high a =
+    → IsAnswer (slip_query pairings players) (overlay db []) params rows → rows ≡ eval_all slip_terms (params ∷ p ∷ l ∷ h ∷ []) ∷ []
+slip_one pairings players db params p l h rows one low high a =
     let read = overlay db [] players in
     let stored = bare db players in
-    one_shown (slip_query players) params (params ∷ p ∷ l ∷ h ∷ []) (a.grouped
-    ∙ joined_one (asks params) (λ r. numbered_as (column r 3) read) (λ r. numbered_as (column r 4) read) params (db 3) p l h one
+    one_shown (slip_query pairings players) params (params ∷ p ∷ l ∷ h ∷ []) (a.grouped
+    ∙ joined_one (asks params) (λ r. numbered_as (column r 3) read) (λ r. numbered_as (column r 4) read) params
+    (overlay db [] pairings) p l h
+    (ap (filter (asks params)) (bare db pairings) ∙ one)
     (ap (numbered_as (column p 3)) stored ∙ low)
     (ap (numbered_as (column p 4)) stored ∙ high)) a.distinct a.same a.shown
 
@@ -91,12 +93,13 @@ pub none_permuted : {X : Type 0} (ys : List X) → IsPermutation [] ys → ys �
 none_permuted [] same = refl
 none_permuted (y ∷ ys) same = absurd (let len = length_permutation [] (y ∷ ys) same in omega (arith, len))
 
-pub slip_none : (players : ℕ) (db : Trees) (params : Row) (rows : List Row) → filter (asks params) (db 3) ≡ []
-    → IsAnswer (slip_query players) (overlay db []) params rows → rows ≡ []
-slip_none players db params rows none a =
+pub slip_none : (pairings players : ℕ) (db : Trees) (params : Row) (rows : List Row) → filter (asks params) (db pairings) ≡ []
+    → IsAnswer (slip_query pairings players) (overlay db []) params rows → rows ≡ []
+slip_none pairings players db params rows none a =
     let read = overlay db [] players in
+    let stored : filter (asks params) (overlay db [] pairings) ≡ [] = ap (filter (asks params)) (bare db pairings) ∙ none in
     let staged : a.staged ≡ [] = a.grouped ∙ (joined (asks params) (λ r. numbered_as (column r 3) read)
-    (λ r. numbered_as (column r 4) read) params (db 3) ∙ rw none) in
+    (λ r. numbered_as (column r 4) read) params (overlay db [] pairings) ∙ rw stored) in
     rw (none_permuted a.ordered (rw (a.distinct, staged) at a.same)) at a.shown
 
 -- ---- a test that picks none
@@ -115,15 +118,22 @@ none_picked shown test rows all same none =
 -- ---- players who are known
 
 -- what is shown of a player begins with the number and the name
-named : (l : Layout) (r : Row) → column (player_shown l r) 1 ≡ column r 2
-named Old r = refl
-named New r = refl
-named Moved r = refl
+abbrev shown_by : Bool → Row → Row
+shown_by second row = if second then at_places player2_places row else at_places player_places row ++ number_value 0 ∷ []
 
-picked : (l : Layout) (n : ℕ) (rows : List Row) → filter (picks n) rows ≡ filter (λ r. picks n (player_shown l r)) rows
-picked Old n rows = refl
-picked New n rows = refl
-picked Moved n rows = refl
+named_by : (second : Bool) (r : Row) → column (shown_by second r) 1 ≡ column r 2
+named_by true r = refl
+named_by false r = refl
+
+named : (version : ℕ) (r : Row) → column (player_shown version r) 1 ≡ column r 2
+named version r = named_by (version == 2) r
+
+picked_by : (second : Bool) (n : ℕ) (rows : List Row) → filter (picks n) rows ≡ filter (λ r. picks n (shown_by second r)) rows
+picked_by true n rows = refl
+picked_by false n rows = refl
+
+picked : (version n : ℕ) (rows : List Row) → filter (picks n) rows ≡ filter (λ r. picks n (player_shown version r)) rows
+picked version n rows = picked_by (version == 2) n rows
 
 -- 0 represents nobody
 abbrev Known : EventValue → ℕ → Type 0
@@ -162,21 +172,22 @@ module _ (e : EventValue) (sound : IsSoundButForSeeds e) where
 
   -- one row has the number, or that of NULLs
   sits : (l : Layout) (db : Database) (s n : ℕ) → RepresentsAt l db e s → Known e n
-      → (row : Row) × (numbered_as (number_value n) (db.trees (players_tree l)) ≡ row ∷ [])
+      → (row : Row) × (numbered_as (number_value n) (db.trees (l.tree PlayerTable)) ≡ row ∷ [])
       × (column row 2 ≡ text_or_null (name_of_side (second_of e n)))
   sits l db s n represents (inl none) =
-      let rows = db.trees (players_tree l) in
+      let rows = db.trees (l.tree PlayerTable) in
       let out = picks_none e.players n (omega (arith, none)) sound.players.numbered in
-      let all = none_picked (player_shown l) (picks n) rows (rows_of e.players) (represents.has.rows PlayerTable) out in
-      ([], ap or_nulls (picked l n rows ∙ all), ap (λ k. text_or_null (name_of_side (second_of e k))) (sym none))
+      let all = none_picked (player_shown l.version) (picks n) rows (rows_of e.players) (represents.has.rows PlayerTable) out in
+      ([], ap or_nulls (picked l.version n rows ∙ all), ap (λ k. text_or_null (name_of_side (second_of e k))) (sym none))
   sits l db s n represents (inr known) =
-      let rows = db.trees (players_tree l) in
+      let rows = db.trees (l.tree PlayerTable) in
       let one = picks_one e.players n sound.players.numbered known in
-      let it = one_picked (player_shown l) (picks n) rows (rows_of e.players) (row_of one.it) (represents.has.rows PlayerTable) one.alone in
-      let name : column it.0 2 ≡ Text one.it.name = sym (named l it.0) ∙ ap (λ (r : Row). column r 1) it.2 in
+      let it = one_picked (player_shown l.version) (picks n) rows (rows_of e.players) (row_of one.it)
+      (represents.has.rows PlayerTable) one.alone in
+      let name : column it.0 2 ≡ Text one.it.name = sym (named l.version it.0) ∙ ap (λ (r : Row). column r 1) it.2 in
       let own = ap (λ (o : Option Player). Text (name_found o)) (sym one.first) in
       let named = ap (λ (o : Side). text_or_null (name_of_side o)) (sym (somebody n known)) in
-      (it.0, ap or_nulls (picked l n rows ∙ it.1), name ∙ (own ∙ named))
+      (it.0, ap or_nulls (picked l.version n rows ∙ it.1), name ∙ (own ∙ named))
 
 -- ---- the matches of a sound event
 
@@ -288,19 +299,21 @@ module _ (e : EventValue) (sound : IsSoundButForSeeds e) (k t : ℕ) (n : ℕ ×
 
   slip_read : (l : Layout) (db : Database) (s : ℕ) (rows : List Row) → RepresentsAt l db e s
       → rows_at e k t ≡ pairing_columns (pairing_row k n) ∷ []
-      → IsAnswer (slip_query (players_tree l)) (overlay db.trees []) (number_value k ∷ number_value t ∷ []) rows
+      → IsAnswer (slip_query (l.tree PairingTable) (l.tree PlayerTable)) (overlay db.trees []) (number_value k ∷ number_value t ∷ []) rows
       → rows ≡ named_columns (named_pairing slip) ∷ []
   slip_read l db s rows represents alone a =
-      let it = one_picked (at_places pairing_places) (picks_table k t) (db.trees pairing_tree) (map pairing_columns (pairing_rows e))
+      let it = one_picked (at_places pairing_places) (picks_table k t) (db.trees (l.tree PairingTable))
+      (map pairing_columns (pairing_rows e))
       (pairing_columns (pairing_row k n)) (represents.has.rows PairingTable) alone in
       let p = it.0 in
       let low = sits e sound l db s (min n.1.a n.1.b) represents known_low in
       let high = sits e sound l db s (max n.1.a n.1.b) represents known_high in
       let lo : column p 3 ≡ number_value (min n.1.a n.1.b) = ap (λ (r : Row). column r 2) it.2 in
       let hi : column p 4 ≡ number_value (max n.1.a n.1.b) = ap (λ (r : Row). column r 3) it.2 in
-      let read = slip_one (players_tree l) db.trees (number_value k ∷ number_value t ∷ []) p low.0 high.0 rows it.1
-      (ap (λ v. numbered_as v (db.trees (players_tree l))) lo ∙ low.1)
-      (ap (λ v. numbered_as v (db.trees (players_tree l))) hi ∙ high.1) a in
+      let read = slip_one (l.tree PairingTable) (l.tree PlayerTable) db.trees
+      (number_value k ∷ number_value t ∷ []) p low.0 high.0 rows it.1
+      (ap (λ v. numbered_as v (db.trees (l.tree PlayerTable))) lo ∙ low.1)
+      (ap (λ v. numbered_as v (db.trees (l.tree PlayerTable))) hi ∙ high.1) a in
       read ∙ ap (λ (r : Row). r ∷ []) (ap (λ (r : Row). r ++ column low.0 2 ∷ column high.0 2 ∷ []) it.2
       ∙ (ap₂ (λ x y. pairing_columns (pairing_row k n) ++ x ∷ y ∷ []) (low.2 ∙ ap text_or_null low_name)
       (high.2 ∙ ap text_or_null high_name)
@@ -311,7 +324,7 @@ module _ (e : EventValue) (sound : IsSoundButForSeeds e) (k t : ℕ) (n : ℕ ×
 
 -- what is read of it, and that its slip is lawful
 pub slip_exact : (l : Layout) (db : Database) (e : EventValue) (s k t : ℕ) (rows : List Row) → RepresentsAt l db e s → IsSoundButForSeeds e
-    → IsAnswer (slip_query (players_tree l)) (overlay db.trees []) (number_value k ∷ number_value t ∷ []) rows
+    → IsAnswer (slip_query (l.tree PairingTable) (l.tree PlayerTable)) (overlay db.trees []) (number_value k ∷ number_value t ∷ []) rows
     → rows ≡ map named_columns (named_pairings e k t)
 slip_exact l db e s k t rows represents sound a =
     by_case (numbered_at e k t) (table_alone e k t (all_bye_last e sound)) (numbered-match e k t)
@@ -320,9 +333,10 @@ slip_exact l db e s k t rows represents sound a =
     by_case : (o : Option (ℕ × Match)) → rows_at e k t ≡ map (λ n. pairing_columns (pairing_row k n)) (option_to_list o)
         → match_at e k t ≡ option_map (λ (n : ℕ × Match). n.1) o → IfSome o (Finds (IsMatch (numbers e.players)) (is_at t))
         → rows ≡ map named_columns (named_pairings e k t)
-    by_case None alone is found = rw is (slip_none (players_tree l) db.trees (number_value k ∷ number_value t ∷ []) rows
+    by_case None alone is found = rw is (slip_none (l.tree PairingTable) (l.tree PlayerTable) db.trees
+        (number_value k ∷ number_value t ∷ []) rows
         (none_picked (at_places pairing_places) (picks_table k t)
-        (db.trees pairing_tree) (map pairing_columns (pairing_rows e)) (represents.has.rows PairingTable) alone) a)
+        (db.trees (l.tree PairingTable)) (map pairing_columns (pairing_rows e)) (represents.has.rows PairingTable) alone) a)
     by_case (Some n) alone is found = rw is (slip_read e sound k t n found l db s rows represents alone a)
 
 pub slips_lawful : (e : EventValue) (k t : ℕ) → IsSoundButForSeeds e → IfSome (slip_of e k t) IsLawfulSlip

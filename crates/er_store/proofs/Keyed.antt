@@ -1,5 +1,4 @@
 -- Which row a round and a table pick, and the order in which the pairings are read.
-use Rattle.er_store.proofs.Prelude.{pairing_tree}
 use Rattle.er_store.proofs.Prelude.{if◌then◌else◌, ◌≡◌, ℕ, zero, suc, ◌+◌, ◌-◌, ◌≤◌, ◌==◌, Bool, true, false, cond, List, [], ◌∷◌, ◌++◌}
 use Rattle.er_store.proofs.Prelude.{map, filter, find, length, take, Option, Some, None, option_map, option_to_list, slice_get, All, IfSome}
 use Rattle.er_store.proofs.Prelude.{IsFalse, refl, sym, ap, subst, ◌∙◌, arith, AllByRecursion, All-nil, All-head, All-tail, All-weaker}
@@ -182,7 +181,7 @@ keyed_rows_are k (r ∷ rounds) = ap (λ rows. keyed_round_rows k r.matches ++ r
 
 pub pairings_exact : (l : Layout) (db : Database) (e : EventValue) (s : ℕ) (listed : List Row) → RepresentsAt l db e s
     → IsSoundButForSeeds e
-    → Lists by_first_two (map (at_places pairing_places) (db.trees pairing_tree)) listed
+    → Lists by_first_two (map (at_places pairing_places) (db.trees (l.tree PairingTable))) listed
     → listed ≡ map pairing_columns (keyed_pairing_rows e)
 pairings_exact l db e s listed represents sound h =
     let last = recursion_from_All (λ (r : Round). ByeLast r.matches) e.stored (all_bye_last e sound) in

@@ -5,6 +5,9 @@ mod Layouts
 mod Writing
 mod Effects
 mod Together
+mod Listing
+mod Updates
+mod Slipping
 mod Adding
 mod Sizes
 mod Setting

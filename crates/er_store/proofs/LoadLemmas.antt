@@ -3,7 +3,7 @@ use Rattle.er_store.proofs.Prelude.{arith, common_steps, ◌≡◌, ◌⊎◌, i
 use Rattle.er_store.proofs.Prelude.{subst, ◌∙◌, Database, State, IsUnchanged, Row, Error, Place, EventValue, HasTables, Represents}
 use Rattle.er_store.proofs.Prelude.{out_of_memory, IsReadRefused, KeepsTables, IsFault, reading_refusal, IsNotRun, Bool, true, false, []}
 use Rattle.er_store.proofs.Prelude.{is_ok, IsOk, true≢false, Schema, CompileError, understood, ◌≢◌, ◌<◌, zero, suc, ◌∷◌, map, length}
-use Rattle.er_store.proofs.Prelude.{get_or, not-suc-le-zero, AreKeyed, RepresentsIn, RepresentsAt, Layout, version_of}
+use Rattle.er_store.proofs.Prelude.{get_or, not-suc-le-zero, AreKeyed, RepresentsIn, RepresentsAt, Layout}
 use Rattle.er_store.specs.Loading.{HoldsEvent}
 use Rattle.std.proofs.Common.{OnOk, OnErr, IsErr}
 use Rattle.sqlite.specs.declared.error.Error.TheVariants.{SqlInputError, MultipleStatement}
@@ -61,18 +61,18 @@ told (Ok a) e P is p = tt
 told (Err x) e P is p = subst P (sym is) p
 
 -- tables that hold an event represent it, where the rowids are numbers and rise
-pub represents_where : {v : ℕ} {db : Database} {e : EventValue} {s : ℕ} → HoldsEvent v db e s → AreKeyed db → RepresentsIn v db e s
+pub represents_where : {v : ℕ} {db : Database} {e : EventValue} {s : ℕ} → HoldsEvent v db e s → AreKeyed v db → RepresentsIn v db e s
 represents_where it keyed = record {
   layout = it.layout;
   is = it.is;
   represents = record {
     low = it.holds.low;
     keeps = it.holds.keeps;
-    has = record { tables = it.tables; rows = it.holds.rows; keyed = keyed };
+    has = record { tables = it.tables; rows = it.holds.rows; keyed = keyed it.layout it.is it.tables };
   };
 }
 
-pub in_version : {l : Layout} {db : Database} {e : EventValue} {s : ℕ} → RepresentsAt l db e s → RepresentsIn (version_of l) db e s
+pub in_version : {l : Layout} {db : Database} {e : EventValue} {s : ℕ} → RepresentsAt l db e s → RepresentsIn l.version db e s
 in_version {l} represents = record { layout = l; is = refl; represents = represents }
 
 -- ---- what a look for the event's table tells

@@ -1,6 +1,6 @@
 -- What the rows of a sound event tell, and a crash leaves of it.
-use Rattle.er_store.proofs.Prelude.{common_steps, ◌≡◌, ℕ, List, [], ◌∷◌, refl, sym, ap, ap₂, ◌∙◌, arith, Row, Trees, Table, Schema}
-use Rattle.er_store.proofs.Prelude.{Database, EventValue, HasTablesAt, Layout, version_of, RepresentsIn, IsStoredIn, ◌≤◌, inl, inr, subst}
+use Rattle.er_store.proofs.Prelude.{common_steps, ◌≡◌, ℕ, List, [], ◌∷◌, refl, ap, ap₂, arith, Row, Trees, Table, Schema}
+use Rattle.er_store.proofs.Prelude.{Database, EventValue, Layout, RepresentsIn, IsStoredIn, ◌≤◌, inl, inr, subst}
 use Rattle.er_store.proofs.Prelude.{IsPermutation-sym}
 use Rattle.er_store.proofs.Prelude.{IsPermutation-trans, Parts, Place, EventTable, PlayerTable, PairingTable, BracketTable, TallyTable}
 use Rattle.er_store.proofs.Prelude.{TallyRow, tally_rows, IsSoundButForSeeds, IsRowFault}
@@ -9,7 +9,7 @@ use Rattle.sqlite_catalog.specs.Listing.{IsSound, IsTableRow}
 use Rattle.er_event.specs.Parts.{parts_of, HasRoundRows, IsFirstFault, IsOf}
 use Rattle.er_event.specs.Version.{Keeps}
 use Rattle.er_store.specs.Loading.{HoldsEventAt, ListsParts, ListsTallies}
-use Rattle.er_store.proofs.Keyed.{keyed_permutes}
+use Rattle.er_store.proofs.{Keyed.keyed_permutes, Layouts.has_again}
 
 -- ---- what a crash leaves represents the event again where it is opened
 
@@ -27,9 +27,6 @@ same_tables (r ∷ rows) (x ∷ xs) (y ∷ ys) p q = ap₂ ◌∷◌ (same_table
 -- trees list one list of tables
 pub schemas_agree : (a b : Schema) (db : Trees) → IsSound a db → IsSound b db → a.tables ≡ b.tables
 schemas_agree a b db p q = same_tables _ a.tables b.tables p.lists.listed.tables q.lists.listed.tables
-
-has_again : (l : Layout) (a b : Schema) → a.tables ≡ b.tables → HasTablesAt l a → HasTablesAt l b
-has_again l a b same has = record { others = has.others; are = sym same ∙ has.are; apart = has.apart }
 
 -- a database whose trees are stored represents the event, whatever schema was read of them
 pub represents_again : (v : ℕ) (db : Database) (e : EventValue) (s : ℕ) → IsSound db.schema db.trees → IsStoredIn v e s db.trees
@@ -92,8 +89,8 @@ no_row_fault parts e it sound rows counted place (inl fault) = no_fault parts e 
 no_row_fault parts e it sound rows counted place (inr totals) = totals.1.other e it sound counted
 
 -- in any order, they are the rows that the tables show
-pub shows_event : (l : Layout) (db : Database) (parts : Parts) (e : EventValue) (s : ℕ) → s ≤ 999999 → Keeps (version_of l) e
-    → IsSoundButForSeeds e → parts ≡ parts_of (version_of l) e s → ListsParts l db parts
+pub shows_event : (l : Layout) (db : Database) (parts : Parts) (e : EventValue) (s : ℕ) → s ≤ 999999 → Keeps l.version e
+    → IsSoundButForSeeds e → parts ≡ parts_of l.version e s → ListsParts l db parts
     → (rows : List TallyRow) → rows ≡ tally_rows e → ListsTallies l db rows → HoldsEventAt l db e s
 shows_event l db parts e s low keeps sound are lists rows counted totals =
     let whole = subst (ListsParts l db) are lists in

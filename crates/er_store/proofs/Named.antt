@@ -34,7 +34,8 @@ use Rattle.sqlite_resolve.specs.Order.{keys, sorts}
 use Rattle.sqlite_resolve.specs.Program.{Shown, query_to, query, source, sources, viewing, single, alone, whole, level, with, program}
 use Rattle.sqlite_resolve.specs.Select.{outermost, having, parts, ungrouped, assembled, named, paging, constant_or}
 use Rattle.sqlite_resolve.specs.Terms.{number}
-use Rattle.er_store.proofs.Meaning.{Means, event_terms, player_terms}
+use Rattle.er_store.proofs.Meaning.{Means, event_terms, player_terms, player2_terms, pairing_terms, slot_terms, tally_terms}
+use Rattle.er_store.proofs.Prelude.{player2, insert_player2, pairing, insert_pairing, bracket, insert_slot, tally, insert_tally}
 use Rattle.er_store.specs.{inside.Making.IsFound, Tables.find_event}
 
 -- ---- an INSERT of values
@@ -75,6 +76,26 @@ pub player_means : {schema : Schema} (at tree : ℕ) → IsFound schema at (play
     → Means insert_player (Insert at (Values player_terms 4)) schema
 unfolding everything digits
 player_means at tree there = insert_means there insert_player _ _ _ _ refl refl refl refl refl
+
+pub player2_means : {schema : Schema} (at tree : ℕ) → IsFound schema at (player2 tree)
+    → Means insert_player2 (Insert at (Values player2_terms 5)) schema
+unfolding everything digits
+player2_means at tree there = insert_means there insert_player2 _ _ _ _ refl refl refl refl refl
+
+pub pairing_means : {schema : Schema} (at tree : ℕ) → IsFound schema at (pairing tree)
+    → Means insert_pairing (Insert at (Values pairing_terms 10)) schema
+unfolding everything digits
+pairing_means at tree there = insert_means there insert_pairing _ _ _ _ refl refl refl refl refl
+
+pub slot_means : {schema : Schema} (at tree : ℕ) → IsFound schema at (bracket tree)
+    → Means insert_slot (Insert at (Values slot_terms 9)) schema
+unfolding everything digits
+slot_means at tree there = insert_means there insert_slot _ _ _ _ refl refl refl refl refl
+
+pub tally_means : {schema : Schema} (at tree : ℕ) → IsFound schema at (tally tree)
+    → Means insert_tally (Insert at (Values tally_terms 6)) schema
+unfolding everything digits
+tally_means at tree there = insert_means there insert_tally _ _ _ _ refl refl refl refl refl
 
 -- ---- a SELECT over one table
 

@@ -51,13 +51,14 @@ read_refused tree terms keys old new e =
     query_refused (table_query tree terms keys) [] (λ trees. sums_nothing trees tree terms keys) old new e
 
 -- nor does that of a slip
-slip_sums : (players : ℕ) (params : Row) (trees : Trees) → ¬ ProgramOverflows trees params [] [] (slip_query players)
-slip_sums players params trees (inl sum) = sum
-slip_sums players params trees (inr fold) = fold.4.4.4
+slip_sums : (pairings players : ℕ) (params : Row) (trees : Trees) → ¬ ProgramOverflows trees params [] [] (slip_query pairings players)
+slip_sums pairings players params trees (inl sum) = sum
+slip_sums pairings players params trees (inr fold) = fold.4.4.4
 
-pub slip_refused : (players : ℕ) (params : Row) {sql : List ℕ} (old new : State) (e : Error)
-    → SelectsWith params sql (slip_query players) old.now.schema → FailsToQuery sql params old new e → IsReadRefused old new e
-slip_refused players params old new e = query_refused (slip_query players) params (slip_sums players params) old new e
+pub slip_refused : (pairings players : ℕ) (params : Row) {sql : List ℕ} (old new : State) (e : Error)
+    → SelectsWith params sql (slip_query pairings players) old.now.schema → FailsToQuery sql params old new e → IsReadRefused old new e
+slip_refused pairings players params old new e =
+    query_refused (slip_query pairings players) params (slip_sums pairings players params) old new e
 
 -- ---- what a refusal of a read says of the file, whatever its schema is
 

@@ -1,11 +1,9 @@
 -- What an UPDATE does to the one row that its WHERE picks.
-use Rattle.er_store.proofs.Prelude.{player_tree, pairing_tree, bracket_tree, tally_tree}
 use Rattle.er_store.proofs.Prelude.{has_rowid, numbers, tally_columns, rowid, value_cmp, nat_tests, arith, ◌≡◌, ℕ, List, [], ◌∷◌, ◌++◌, map}
 use Rattle.er_store.proofs.Prelude.{filter, flat_map, Bool, false, if◌then◌else◌, refl, sym, ap, subst, ◌∙◌, ℤ, pos, slice_get, Some, not}
-use Rattle.er_store.proofs.Prelude.{◌≢◌, list_all, IsPermutation, IsPermutation-sym, Row, column, Term, eval_all, holds, IsAnswer, overlay}
+use Rattle.er_store.proofs.Prelude.{list_all, IsPermutation, IsPermutation-sym, Row, column, Term, eval_all, holds, IsAnswer, overlay}
 use Rattle.er_store.proofs.Prelude.{Trees, put_row, without_rowid, cast, cast_row, is_taken, Update, State, Table, one_permutation}
-use Rattle.er_store.proofs.Prelude.{filter-map, IsPermutation-filter, filter_same, at_places, number_value, HasTablesAt, Layout, Old}
-use Rattle.er_store.proofs.Prelude.{IsOther}
+use Rattle.er_store.proofs.Prelude.{filter-map, IsPermutation-filter, filter_same, at_places, number_value, Layout}
 use Rattle.er_store.proofs.Prelude.{Ran, Goes}
 use Rattle.er_store.proofs.Prelude.{length, Contains, true, range_with_len, IsPermutation-trans, Int, Text, PlayerTable, Player, EventValue}
 use Rattle.er_store.proofs.Prelude.{dropped_at, TallyRow, player, set_dropped, stored_player, RepresentsWith, BringsToWith, TallyTable}
@@ -14,7 +12,7 @@ use Rattle.er_store.proofs.Prelude.{Equal, is_eq, AllByRecursion, Value, Null, v
 use Rattle.er_store.proofs.Prelude.{all_from_test, test_from_all, BracketTable, PairingTable, Games, Match, is_bye, match_at, slot_at}
 use Rattle.er_store.proofs.Prelude.{match_with_score, with_score, with_slot_score, pairing_row, bracket_row, pairing, bracket, set_score}
 use Rattle.er_store.proofs.Prelude.{set_slot_score, pairing_columns, bracket_columns, IsKeyed}
-use Rattle.er_store.proofs.Prelude.{New, Moved, version_of, players_tree, player_shown, player2, set_dropped2, stored_player2}
+use Rattle.er_store.proofs.Prelude.{player_shown, player2, set_dropped2, stored_player2}
 use Rattle.er_store.proofs.Exact.{bare}
 use Rattle.std.specs.Ordering.{is_lt}
 use Rattle.std.proofs.lemmas.Cmp.{tied_itself}
@@ -29,7 +27,8 @@ use Rattle.er_store.proofs.Prelude.{All, All-weaker, find, ◌==◌}
 use Rattle.sqlite_keyed.proofs.SliceLemmas.{All-find}
 use Rattle.std.proofs.lemmas.List.Elements.{All-map}
 use Rattle.er_event.specs.Version.{KeepsPlayers}
-use Rattle.er_store.proofs.{Effects.{meant, old_meant, second_meant, second_at, tally_at, pairing_at, bracket_at}}
+use Rattle.er_store.proofs.{Layouts.{found, no_parent, player_there, player2_there}, Updates.{totals_means, dropped_means, dropped2_means}}
+use Rattle.er_store.proofs.{Updates.{score_means, slot_score_means}, Writing.IsNoParent}
 use Rattle.er_store.proofs.{Meaning.{rows_query, dropped_tests, Means, score_tests}, Together.{shows_more, players_set}}
 use Rattle.er_store.proofs.{Together.{tallies_set, pairings_set, bracket_set}, Writing.{replaces, cast_int, cast_null, one_shown}}
 use Rattle.er_store.proofs.{PickingMatch.{picks_table, is_elsewhere, picks_one_table, picks_one_slot}, Adding.keyed_put}
@@ -82,21 +81,20 @@ left_of n more = filter_same (λ x. not (has_rowid (pos n) x)) (λ x. is_another
     (λ x. sym (ap not (picks-compares n (led more x))))
 
 -- The row is taken out and put in again, with other values. The others stay.
-pub sets_number : (l : Layout) (table : Table) (more : Row → Row) (n : ℕ) (row : Row) {values was : Row} {all : List Row}
+pub sets_number : (table : Table) (more : Row → Row) (n : ℕ) (row : Row) {values was : Row} {all : List Row}
     {terms : List Term} {at : ℕ} {sql : List ℕ} {old new : State}
     → Means sql (Update at (record { lets = []; body = rows_query table.tree dropped_tests terms })) old.now.schema
-    → HasTablesAt l old.now.schema → slice_get old.now.schema.tables at ≡ Some table → ((x : ℕ) → IsOther l x → x ≢ table.tree)
-    → ((db : Trees) → overlay db [] table.tree ≡ db table.tree)
+    → IsNoParent old.now.schema table.tree → slice_get old.now.schema.tables at ≡ Some table
     → ((r : Row) → led more r ≡ was → eval_all terms ((number_value n ∷ values) ∷ r ∷ []) ≡ number_value n ∷ row)
     → cast_row table row ≡ row → IsPermutation (map (led more) (old.now.trees table.tree)) all → filter (picks n) all ≡ was ∷ []
     → Ran sql (number_value n ∷ values) old new → Goes table.tree old new
     × IsPermutation (map (led more) (new.now.trees table.tree)) (filter (is_another n) all ++ led more row ∷ [])
-sets_number l table more n row {values} {was} {all} {terms} {old = old} {new} means has found apart stored gives cast same one ran =
+sets_number table more n row {values} {was} {all} {terms} {old = old} {new} means apart found gives cast same one ran =
     let trees = old.now.trees in
     let it = one_picked (led more) (picks n) (trees table.tree) all was same one in
-    let set = replaces l table (pos n) row means has found apart
+    let set = replaces table (pos n) row means apart found
     (λ rows answer. picked_rows table.tree dropped_tests terms trees (number_value n ∷ values) it.0 rows
-    (ap (filter (λ x. picks n (led more x))) (stored trees) ∙ it.1) answer
+    (ap (filter (λ x. picks n (led more x))) (bare trees table.tree) ∙ it.1) answer
     ∙ ap (λ x. x ∷ []) (gives it.0 it.2)) cast ran in (
       set.goes,
       shows_replaced (led more) (picks n) (pos n) row (trees table.tree) (new.now.trees table.tree) all same
@@ -121,48 +119,39 @@ dropped_keeps n ps keeps first =
     same p true early = early
     same p false early = early
 
-pub player_dropped : (n : ℕ) {old new : State} {e : EventValue} {s : ℕ} {kept : List TallyRow} → RepresentsWith Old old.now e s kept
-    → numbers e.players ≡ range_with_len 1 (length e.players) → Contains (numbers e.players) n
-    → Ran set_dropped (number_value n ∷ []) old new → BringsToWith Old old new (with_dropped e n) s kept
-player_dropped n {old} {new} {e} represents numbered known ran =
+pub player_dropped : (n : ℕ) (l : Layout) → l.version ≡ 1 → {old new : State} {e : EventValue} {s : ℕ} {kept : List TallyRow}
+    → RepresentsWith l old.now e s kept → numbers e.players ≡ range_with_len 1 (length e.players) → Contains (numbers e.players) n
+    → Ran set_dropped (number_value n ∷ []) old new → BringsToWith l old new (with_dropped e n) s kept
+player_dropped n l is {old} {new} {e} represents numbered known ran =
     let has = represents.has.tables in
+    let there = (player_there l is has).1 in
+    let shown : player_shown l.version ≡ (λ r. at_places (0 ∷ 2 ∷ 3 ∷ []) r ++ number_value 0 ∷ []) = rw is refl in
     let one = picks_one e.players n numbered known in
     let it = one.it in
     let row = stored_player n it.name true in
-    let early : it.joined ≡ 0 = is_early e.players n it (represents.keeps.players refl) one.first in
-    let set = sets_number Old (player player_tree) (λ r. at_places (2 ∷ 3 ∷ []) r ++ number_value 0 ∷ []) n row (old_meant has).dropped has
-    (ap (λ ts. slice_get ts 1) has.are) (λ x other. other.1) (λ db. refl) (λ r h. let is = one.is in cc) (simp (cast_int, cast_null))
-    (represents.has.rows PlayerTable) one.alone ran in
+    let early : it.joined ≡ 0 = is_early e.players n it (represents.keeps.players is) one.first in
+    let set = sets_number (player (l.tree PlayerTable)) (λ r. at_places (2 ∷ 3 ∷ []) r ++ number_value 0 ∷ []) n row (dropped_means there)
+    (no_parent l has PlayerTable) there.is (λ r h. let is = one.is in cc) (simp (cast_int, cast_null))
+    (rw shown at (represents.has.rows PlayerTable)) one.alone ran in
     players_set represents (map (dropped_at n) e.players) (dropped_keeps n e.players represents.keeps.players) set.0
-    (IsPermutation-trans _ _ _ set.1 (rw (same_number it.no n one.is, one.is, early) at one.replaced))
-
--- what is read of a player of version 2
-second_shown : (l : Layout) → version_of l ≡ 2 → (rows all : List Row) → IsPermutation (map (player_shown l) rows) all
-    → IsPermutation (map (led (at_places (2 ∷ 3 ∷ 4 ∷ []))) rows) all
-second_shown Old is rows all same = absurd (cc)
-second_shown New is rows all same = same
-second_shown Moved is rows all same = same
-
-shown_second : (l : Layout) → version_of l ≡ 2 → (rows all : List Row) → IsPermutation (map (led (at_places (2 ∷ 3 ∷ 4 ∷ []))) rows) all
-    → IsPermutation (map (player_shown l) rows) all
-shown_second Old is rows all same = absurd (cc)
-shown_second New is rows all same = same
-shown_second Moved is rows all same = same
+    (rw shown (IsPermutation-trans _ _ _ set.1 (rw (same_number it.no n one.is, one.is, early) at one.replaced)))
 
 -- a player of version 2
-pub second_dropped : (n : ℕ) (l : Layout) → version_of l ≡ 2 → {old new : State} {e : EventValue} {s : ℕ} {kept : List TallyRow}
+pub second_dropped : (n : ℕ) (l : Layout) → l.version ≡ 2 → {old new : State} {e : EventValue} {s : ℕ} {kept : List TallyRow}
     → RepresentsWith l old.now e s kept → numbers e.players ≡ range_with_len 1 (length e.players) → Contains (numbers e.players) n
     → Ran set_dropped2 (number_value n ∷ []) old new → BringsToWith l old new (with_dropped e n) s kept
 second_dropped n l is {old} {new} {e} represents numbered known ran =
     let has = represents.has.tables in
+    let there = (player2_there l is has).1 in
+    let shown : player_shown l.version ≡ at_places (0 ∷ 2 ∷ 3 ∷ 4 ∷ []) = rw is refl in
     let one = picks_one e.players n numbered known in
     let it = one.it in
     let row = stored_player2 n it.name true it.joined in
-    let set = sets_number l (player2 (players_tree l)) (at_places (2 ∷ 3 ∷ 4 ∷ [])) n row (second_meant l is has).dropped has
-    (second_at l is has) (λ x other. other.1) (λ db. bare db (players_tree l)) (λ r h. let is = one.is in cc) (simp (cast_int, cast_null))
-    (second_shown l is _ _ (represents.has.rows PlayerTable)) one.alone ran in
-    players_set represents (map (dropped_at n) e.players) (dropped_keeps n e.players represents.keeps.players) set.0 (shown_second l is _ _
-    (IsPermutation-trans _ _ _ set.1 (rw (same_number it.no n one.is, one.is) at one.replaced)))
+    let set = sets_number (player2 (l.tree PlayerTable)) (at_places (2 ∷ 3 ∷ 4 ∷ [])) n row (dropped2_means there)
+    (no_parent l has PlayerTable) there.is (λ r h. let is = one.is in cc) (simp (cast_int, cast_null))
+    (rw shown at (represents.has.rows PlayerTable)) one.alone ran in
+    players_set represents (map (dropped_at n) e.players) (dropped_keeps n e.players represents.keeps.players) set.0
+    (rw shown (IsPermutation-trans _ _ _ set.1 (rw (same_number it.no n one.is, one.is) at one.replaced)))
 
 -- ---- what the UPDATE of one player's totals does, which a WHERE picks
 
@@ -191,8 +180,8 @@ totals_set n t come_to {l = l} {e = e} represents numbered known ran =
     let next = set_for n t come_to in
     let one = picks_row (row_by come_to) (row_by next) n (are_rows n t come_to) e.players numbered known (shown come_to) (shown next) in
     let it = one.it in
-    let set = sets_number l (tally tally_tree) (at_places (2 ∷ 3 ∷ 4 ∷ 5 ∷ [])) n (stored_tally (tally_row n t)) (meant has).totals has
-    (tally_at l has) (λ x other. other.4) (λ db. refl) (λ r h. let is = one.is in cc)
+    let set = sets_number (tally (l.tree TallyTable)) (at_places (2 ∷ 3 ∷ 4 ∷ 5 ∷ [])) n (stored_tally (tally_row n t))
+    (totals_means (has.has TallyTable).1) (no_parent l has TallyTable) (found l has TallyTable).is (λ r h. let is = one.is in cc)
     (simp (cast_int, cast_null)) (represents.has.rows TallyTable) one.alone ran in
     tallies_set represents (rows next) set.0 (IsPermutation-trans _ _ _ set.1 (rw (same_number it.no n one.is, one.is) at one.replaced))
 
@@ -264,16 +253,16 @@ module _ (table : Table) (more : List ℕ) where
     pub keyed : IsKeyed (new.now.trees table.tree)
 
   -- The row is taken out and put in again, with other values. The others stay.
-  pub sets_row : (l : Layout) (k t : ℕ) (is : Row) {values was : Row} {all : List Row} {terms : List Term} {at : ℕ} {sql : List ℕ}
+  pub sets_row : (k t : ℕ) (is : Row) {values was : Row} {all : List Row} {terms : List Term} {at : ℕ} {sql : List ℕ}
       {old new : State} → Means sql (Update at (record { lets = []; body = rows_query table.tree score_tests terms })) old.now.schema
-      → ((db : Trees) → overlay db [] table.tree ≡ db table.tree) → slice_get old.now.schema.tables at ≡ Some table
-      → ((x : ℕ) → IsOther l x → x ≢ table.tree) → ((r : Row) (id : ℤ) → rowid r ≡ Int id → map (column r) places ≡ was
+      → slice_get old.now.schema.tables at ≡ Some table → IsNoParent old.now.schema table.tree
+      → ((r : Row) (id : ℤ) → rowid r ≡ Int id → map (column r) places ≡ was
       → eval_all terms ((number_value k ∷ number_value t ∷ values) ∷ r ∷ []) ≡ Int id ∷ Int id ∷ is)
       → ((id : ℤ) → cast_row table (Int id ∷ is) ≡ Int id ∷ is) → ((id : ℤ) → map (column (Int id ∷ is)) places ≡ is)
-      → HasTablesAt l old.now.schema → IsPermutation (map (at_places places) (old.now.trees table.tree)) all
+      → IsPermutation (map (at_places places) (old.now.trees table.tree)) all
       → IsKeyed (old.now.trees table.tree) → filter (picks_table k t) all ≡ was ∷ []
       → Ran sql (number_value k ∷ number_value t ∷ values) old new → Sets k t is all old new
-  sets_row l k t is {values} {was} {all} {terms} {old = old} {new} means stored found apart gives cast shows has same keyed one ran =
+  sets_row k t is {values} {was} {all} {terms} {old = old} {new} means found apart gives cast shows same keyed one ran =
       let rows = old.now.trees table.tree in
       let picks : Row → Bool = λ r. picks_table k t (map (column r) places) in
       let it = one_picked (at_places places) (picks_table k t) rows all was same one in
@@ -281,9 +270,9 @@ module _ (table : Table) (more : List ℕ) where
       let int = int_of (rowid it.0) (subst (AllByRecursion (λ x. is_int (rowid x) ≡ true)) it.1 ints).0 in
       let id = int.0 in
       let row : Row = Int id ∷ is in
-      let set = replaces l table id row means has found apart
+      let set = replaces table id row means apart found
       (λ rows answer. picked_rows table.tree score_tests terms old.now.trees (number_value k ∷ number_value t ∷ values) it.0 rows
-      (ap (filter picks) (stored old.now.trees) ∙ it.1) answer ∙ ap (λ x. x ∷ []) (gives it.0 id int.1 it.2)) (cast id) ran in
+      (ap (filter picks) (bare old.now.trees table.tree) ∙ it.1) answer ∙ ap (λ x. x ∷ []) (gives it.0 id int.1 it.2)) (cast id) ran in
       let left = rest picks it.0 id int.1 rows keyed.rise it.1 in
       record {
         goes = set.goes;
@@ -302,13 +291,13 @@ scores k t s = number_value k ∷ number_value t ∷ number_value s.x ∷ number
 pub pairing_scored : (k t : ℕ) (score : Games) {m : Match} {l : Layout} {old new : State} {e : EventValue} {s : ℕ} {kept : List TallyRow}
     → RepresentsWith l old.now e s kept → match_at e k t ≡ Some m → is_bye m ≡ false
     → Ran set_score (scores k t score) old new → BringsToWith l old new (with_score e k t score) s kept
-pairing_scored k t score {m} {l} {e = e} represents found seat ran =
+pairing_scored k t score {m} {l} {e = e} represents stands seat ran =
     let has = represents.has.tables in
-    let one = picks_one_table e k t score m found seat in
+    let one = picks_one_table e k t score m stands seat in
     let row = pairing_row k (one.it.0, match_with_score score one.it.1) in
-    let set = sets_row (pairing pairing_tree) (3 ∷ 4 ∷ 5 ∷ 6 ∷ 7 ∷ 8 ∷ 9 ∷ []) l k t (pairing_columns row) (meant has).score
-    (λ db. refl) (pairing_at l has) (λ x other. other.2) (λ r id own h. cc) (λ id. simp cast_int) (λ id. refl)
-    has (represents.has.rows PairingTable) represents.has.keyed.pairings one.alone ran in
+    let set = sets_row (pairing (l.tree PairingTable)) (3 ∷ 4 ∷ 5 ∷ 6 ∷ 7 ∷ 8 ∷ 9 ∷ []) k t (pairing_columns row)
+    (score_means (has.has PairingTable).1) (found l has PairingTable).is (no_parent l has PairingTable) (λ r id own h. cc)
+    (λ id. simp cast_int) (λ id. refl) (represents.has.rows PairingTable) represents.has.keyed.pairings one.alone ran in
     pairings_set represents (with_score e k t score).stored set.goes (IsPermutation-trans _ _ _ set.rows one.replaced) set.keyed
 
 -- ---- a match of the playoff
@@ -316,11 +305,11 @@ pairing_scored k t score {m} {l} {e = e} represents found seat ran =
 pub slot_scored : (k t : ℕ) (score : Games) {m : Match} {l : Layout} {old new : State} {e : EventValue} {s : ℕ} {kept : List TallyRow}
     → RepresentsWith l old.now e s kept → slot_at e k t ≡ Some m
     → Ran set_slot_score (scores k t score) old new → BringsToWith l old new (with_slot_score e k t score) s kept
-slot_scored k t score {m} {l} {e = e} represents found ran =
+slot_scored k t score {m} {l} {e = e} represents stands ran =
     let has = represents.has.tables in
-    let one = picks_one_slot e k t score m found in
+    let one = picks_one_slot e k t score m stands in
     let row = bracket_row k (one.it.0, match_with_score score one.it.1) in
-    let set = sets_row (bracket bracket_tree) (3 ∷ 4 ∷ 5 ∷ 6 ∷ 7 ∷ 8 ∷ []) l k t (bracket_columns row) (meant has).slot_score (λ db. refl)
-    (bracket_at l has) (λ x other. other.3) (λ r id own h. cc) (λ id. simp cast_int) (λ id. refl)
-    has (represents.has.rows BracketTable) represents.has.keyed.bracket one.alone ran in
+    let set = sets_row (bracket (l.tree BracketTable)) (3 ∷ 4 ∷ 5 ∷ 6 ∷ 7 ∷ 8 ∷ []) k t (bracket_columns row)
+    (slot_score_means (has.has BracketTable).1) (found l has BracketTable).is (no_parent l has BracketTable) (λ r id own h. cc)
+    (λ id. simp cast_int) (λ id. refl) (represents.has.rows BracketTable) represents.has.keyed.bracket one.alone ran in
     bracket_set represents (with_slot_score e k t score).bracket.stages set.goes (IsPermutation-trans _ _ _ set.rows one.replaced) set.keyed

@@ -4,7 +4,7 @@ use Rattle.er_store.proofs.Prelude.{inl, inr, ℕ, List, [], ◌∷◌, map, dro
 use Rattle.er_store.proofs.Prelude.{Result, sym, ap, subst, ◌∙◌, Row, Term, Table, Insert, Values, cast_row, numbered, Trees, Database}
 use Rattle.er_store.proofs.Prelude.{State, runs_as, Puts, Ran, ◌≢◌, ◌==◌, ◌++◌, ap₂, AllByRecursion, IsPermutation, ne_eqb, eval_all}
 use Rattle.er_store.proofs.Prelude.{IsAnswer, output, Output, Query, overlay, Schema, Update, is_taken, without_rowid, put_row}
-use Rattle.er_store.proofs.Prelude.{one_permutation, Layout, Old, New, Moved, HasTablesAt, IsOther, with_ours, Goes, all_weaker}
+use Rattle.er_store.proofs.Prelude.{one_permutation, Goes}
 use Rattle.std.proofs.Common.{◌/◌, MatchBool}
 use Rattle.std.specs.{List.{flat_map, filter_map, cons_option}, Prelude.Option}
 use Rattle.sqlite_rules.specs.{Edit.{edit_of, Applies}, Calls.ids_of, Action.{Writes, works, work_by, work_for, deed_for, pairs}}
@@ -16,7 +16,7 @@ use Rattle.sqlite_rules.proofs.ActionLemmas.{no_works}
 use Rattle.sqlite_schema.specs.{declared.program.Program.Program, declared.schema.Keys.Keys, declared.schema.Reference.Reference}
 use Rattle.sqlite_schema.specs.Rules.{ParentKey, parent_key}
 use Rattle.er_store.proofs.Meaning.{Means, event_query}
-use Rattle.er_store.specs.Representing.{LeadsElsewhere}
+use Rattle.sqlite_exec.proofs.RunLemmas.{none_given}
 
 -- ---- what columns make of the values that are written here
 
@@ -112,6 +112,9 @@ update_goes task mode db at q tally after h = grind (arith, common_steps)
 abbrev Elsewhere : List Table → ℕ → Reference → Type 0
 Elsewhere tables tree ref = (key : ParentKey) → parent_key tables ref ≡ Some key → key.0 ≢ tree
 
+abbrev pub IsNoParent : Schema → ℕ → Type 0
+IsNoParent schema tree = AllByRecursion (λ t. AllByRecursion (Elsewhere schema.tables tree) t.references) schema.tables
+
 not_moved : (depth tree : ℕ) (moves : List (Row × Row)) (child : Table) (ref : Reference) (deed : _) (key : Option ParentKey)
     → ((k : ParentKey) → key ≡ Some k → k.0 ≢ tree) → work_by depth tree moves child ref deed key ≡ None
 not_moved depth tree moves child ref None key apart = refl
@@ -119,8 +122,7 @@ not_moved depth tree moves child ref (Some deed) None apart = refl
 not_moved depth tree moves child ref (Some deed) (Some key) apart = rw (ne_eqb key.0 tree (apart key refl))
 
 pub no_works_elsewhere : (schema : Schema) (keys : Keys) (tree : ℕ) (olds news : List Row)
-    → AllByRecursion (λ t. AllByRecursion (Elsewhere schema.tables tree) t.references) schema.tables
-    → works schema keys 0 tree olds news ≡ []
+    → IsNoParent schema tree → works schema keys 0 tree olds news ≡ []
 no_works_elsewhere schema keys tree olds news = each schema.tables
   where
     none : (child : Table) (refs : List Reference) → AllByRecursion (Elsewhere schema.tables tree) refs
@@ -134,27 +136,6 @@ no_works_elsewhere schema keys tree olds news = each schema.tables
     each [] all = refl
     each (t ∷ tables) all = ap₂ ◌++◌ (none t t.references all.0) (each tables all.1)
 
-elsewhere : (l : Layout) (tables : List Table) (tree : ℕ) → ((t : ℕ) → IsOther l t → t ≢ tree) → (others : List Table)
-    → AllByRecursion (λ t. AllByRecursion (LeadsElsewhere l tables) t.references) others
-    → AllByRecursion (λ t. AllByRecursion (Elsewhere tables tree) t.references) others
-elsewhere l tables tree differs = grind (arith, common_steps, all_weaker)
-
--- so no update of one of the five tables sets off an action
-pub sets_off_nothing : (l : Layout) (schema : Schema) (keys : Keys) (tree : ℕ) (olds news : List Row) → HasTablesAt l schema
-    → ((t : ℕ) → IsOther l t → t ≢ tree) → works schema keys 0 tree olds news ≡ []
-sets_off_nothing l schema keys tree olds news has differs =
-    no_works_elsewhere schema keys tree olds news
-    (subst (λ ts. AllByRecursion (λ t. AllByRecursion (Elsewhere ts tree) t.references) ts) (sym has.are)
-    (ours l (with_ours l has.others) has.others (elsewhere l (with_ours l has.others) tree differs has.others has.apart)))
-  where
-    -- those that stand first have no foreign key
-    ours : (l : Layout) (tables others : List Table)
-        → AllByRecursion (λ t. AllByRecursion (Elsewhere tables tree) t.references) others
-        → AllByRecursion (λ t. AllByRecursion (Elsewhere tables tree) t.references) (with_ours l others)
-    ours Old tables others all = (tt, (tt, (tt, (tt, (tt, all)))))
-    ours New tables others all = (tt, (tt, (tt, (tt, (tt, all)))))
-    ours Moved tables others all = (tt, (tt, (tt, (tt, (tt, (tt, all))))))
-
 -- ---- one row gives way to another
 
 -- the row of this rowid is taken out, and this row is put in
@@ -164,12 +145,12 @@ pub record Replaces (tree : ℕ) (id : ℤ) (row : Row) (old new : State) : Type
   pub rows : new.now.trees tree ≡ put_row row (without_rowid id (old.now.trees tree))
 
 -- an UPDATE does so whose query shows the rowid and the row
-pub replaces : (l : Layout) (table : Table) (id : ℤ) (row : Row) {sql : List ℕ} {params : Row} {old new : State} {at : ℕ} {q : Query}
-    → Means sql (Update at (record { lets = []; body = q })) old.now.schema → HasTablesAt l old.now.schema
-    → slice_get old.now.schema.tables at ≡ Some table → ((x : ℕ) → IsOther l x → x ≢ table.tree)
+pub replaces : (table : Table) (id : ℤ) (row : Row) {sql : List ℕ} {params : Row} {old new : State} {at : ℕ} {q : Query}
+    → Means sql (Update at (record { lets = []; body = q })) old.now.schema → IsNoParent old.now.schema table.tree
+    → slice_get old.now.schema.tables at ≡ Some table
     → ((rows : List Row) → IsAnswer q (overlay old.now.trees []) params rows → rows ≡ (Int id ∷ row) ∷ [])
     → cast_row table row ≡ row → Ran sql params old new → Replaces table.tree id row old new
-replaces l table id row {sql} {params} {old} {new} {at} {q} means has found apart shows cast ran =
+replaces table id row {sql} {params} {old} {new} {at} {q} means apart found shows cast ran =
     let h = ran.executes in
     let schema = old.now.schema in
     let trees = old.now.trees in
@@ -183,7 +164,7 @@ replaces l table id row {sql} {params} {old} {new} {at} {q} means has found apar
     ap (λ rows. edit_of trees table (ids_of rows) Given 1 rows) (shows u.0 (u.1.answer Null))
     ∙ ap (λ (r : Row). (let e : Edit = record { table = table; gone = id ∷ []; news = r ∷ [] } in e)) cast in
     let wrote = subst (λ (e : Edit). Writes schema keys trees e (Ok new.now.trees)) edited u.3 in
-    let none = sets_off_nothing l schema keys table.tree (taken_by trees edit) edit.news has apart in
+    let none = no_works_elsewhere schema keys table.tree (taken_by trees edit) edit.news apart in
     let applied = one_step schema keys trees new.now.trees edit none wrote in
     record {
       goes = record { was = ran.was; shows = h.1; sound = w.sound; schema = u.2; others = applied.tables };
@@ -199,7 +180,8 @@ pub one_shown : (q : Query) (params : Row) (e : Env) {staged : List Env} {kept o
     → rows ≡ page q params ((output q e).1 ∷ [])
 one_shown q params e one kept same shown = rw (one_permutation (output q e) _ (rw (kept, one) at same)) at shown
 
-pub event_rows : (terms : List Term) (db : Trees) (params r : Row) (rows : List Row) → db 0 ≡ r ∷ []
-    → IsAnswer (event_query terms) (overlay db []) params rows → rows ≡ eval_all terms (params ∷ r ∷ []) ∷ []
-event_rows terms db params r rows one a =
-    one_shown (event_query terms) params (params ∷ r ∷ []) (a.grouped ∙ rw one) a.distinct a.same a.shown
+pub event_rows : (tree : ℕ) (terms : List Term) (db : Trees) (params r : Row) (rows : List Row) → db tree ≡ r ∷ []
+    → IsAnswer (event_query tree terms) (overlay db []) params rows → rows ≡ eval_all terms (params ∷ r ∷ []) ∷ []
+event_rows tree terms db params r rows one a =
+    let bare = subst (λ (d : Trees). IsAnswer (event_query tree terms) d params rows) (none_given db) a in
+    one_shown (event_query tree terms) params (params ∷ r ∷ []) (bare.grouped ∙ rw one) bare.distinct bare.same bare.shown

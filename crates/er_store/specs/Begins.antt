@@ -95,7 +95,7 @@ pub record IsAdopted {S : Type 0} (g : Ghosts S) (old : State) (it : Store S g �
       → HoldsEvent (store_version it.0) old.now it.1 it.2
   -- where they are ours, they represent it, and a change can be written to them
   pub represents : HasCleanDisk (store_state g it.0) → HasTables (store_version it.0) old.now.schema
-      → AreKeyed old.now → RepresentsNow (store_version it.0) (store_state g it.0) it.1 it.2
+      → AreKeyed (store_version it.0) old.now → RepresentsNow (store_version it.0) (store_state g it.0) it.1 it.2
   -- of tables that represent a sound event just that is found, with their version, and a crash leaves it in that version
   pub found : HasCleanDisk (store_state g it.0) → (e : EventValue) (s : ℕ) → Represents old.now e s
       → IsSoundButForSeeds e → (it.1 ≡ e) × (it.2 ≡ s) × RepresentsNow (store_version it.0) (store_state g it.0) e s

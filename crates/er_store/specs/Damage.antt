@@ -145,4 +145,4 @@ pub record FindsEvent (version : ℕ) (old new : State) (e : EventValue) (serial
   pub parts : ReadsParts old.now (parts_of version e serial)
   pub tallies : ReadsTallies old.now (tally_rows e)
   pub shows : HasTables version old.now.schema → HoldsEvent version old.now e serial
-  pub represents : HasTables version old.now.schema → AreKeyed old.now → RepresentsNow version new e serial
+  pub represents : HasTables version old.now.schema → AreKeyed version old.now → RepresentsNow version new e serial

@@ -1,35 +1,31 @@
 -- How the tables of an event lie in a file.
-use Rattle.std.specs.Prelude.{◌≡◌, ℕ, List, ◌∷◌}
+use Rattle.std.specs.Prelude.{◌≡◌, ◌==◌, ◌^◌, ℕ, false, Some, find, nat_le, slice_get}
+use Rattle.sqlite_schema.specs.Names.{table_named}
 use Rattle.sqlite.specs.Table.{Table}
 use Rattle.sqlite.specs.Schema.{Schema}
-use Rattle.er_store.specs.Tables.{event_tree, player_tree, pairing_tree, bracket_tree, tally_tree, moved_tree, event, player, player2}
-use Rattle.er_store.specs.Tables.{pairing, bracket, tally, old_schema}
+use Rattle.er_event.specs.declared.refusals.Place.{Place}
+use Rattle.er_event.specs.declared.refusals.Place.TheVariants.{EventTable, PlayerTable, PairingTable, BracketTable, TallyTable}
+use Rattle.er_store.specs.Tables.{event, players_of, pairing, bracket, tally, old_schema}
 
--- Old: as version 1 makes them. New: as version 2 makes them, with `player2` in the place of `player`. Moved: as a
--- migration leaves them, with `player2` behind the five of version 1, whose `player` is another table from then on.
-pub data Layout : Type 0 where
-  Old : Layout
-  New : Layout
-  Moved : Layout
+-- the version that the five tables are of, and the tree in which each has its rows
+pub record Layout : Type 0 where
+  pub version : ℕ
+  pub tree : Place → ℕ
 
-abbrev pub version_of : Layout → ℕ
-version_of Old = 1
-version_of New = 2
-version_of Moved = 2
+-- a table as the text of the version makes it, with its rows in that tree
+abbrev pub table_at : Layout → Place → Table
+table_at layout EventTable = event (layout.tree EventTable)
+table_at layout PlayerTable = players_of layout.version (layout.tree PlayerTable)
+table_at layout PairingTable = pairing (layout.tree PairingTable)
+table_at layout BracketTable = bracket (layout.tree BracketTable)
+table_at layout TallyTable = tally (layout.tree TallyTable)
 
--- the tree of the players
-abbrev pub players_tree : Layout → ℕ
-players_tree Old = player_tree
-players_tree New = player_tree
-players_tree Moved = moved_tree
-
--- the tables that stand first
-abbrev pub with_ours : Layout → List Table → List Table
-with_ours Old others = event event_tree ∷ player player_tree ∷ pairing pairing_tree ∷ bracket bracket_tree ∷ tally tally_tree ∷ others
-with_ours New others = event event_tree ∷ player2 player_tree ∷ pairing pairing_tree ∷ bracket bracket_tree ∷ tally tally_tree ∷ others
-with_ours Moved others =
-    event event_tree ∷ player player_tree ∷ pairing pairing_tree ∷ bracket bracket_tree ∷ tally tally_tree ∷ player2 moved_tree
-    ∷ others
+-- A schema has this table, at this place among others: it is found there by its name, and by its tree.
+pub record IsThere (schema : Schema) (at : ℕ) (table : Table) : Type 0 where
+  pub named : table_named schema table.name ≡ Some at
+  pub is : slice_get schema.tables at ≡ Some table
+  pub low : nat_le (2 ^ 31) table.tree ≡ false
+  pub found : find (λ t. t.tree == table.tree) schema.tables ≡ Some table
 
 -- The tables of version 1 stand alone in the file, as creation leaves them: with no other table, index or view.
 abbrev pub StandsAlone : Schema → Type 0

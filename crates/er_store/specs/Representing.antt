@@ -19,30 +19,29 @@ use Rattle.er_event.specs.declared.refusals.Place.{Place}
 use Rattle.er_event.specs.declared.refusals.Place.TheVariants.{EventTable, PlayerTable, PairingTable, BracketTable, TallyTable}
 use Rattle.er_event.specs.declared.rows.tally.TallyRow.{TallyRow}
 use Rattle.er_event.specs.Rows.{event_row, player_rows, pairing_rows, bracket_rows, tally_rows}
-use Rattle.er_event.specs.Version.{Keeps}
-use Rattle.er_store.specs.Tables.{event_tree, pairing_tree, bracket_tree, tally_tree, find_event, read_event}
-use Rattle.er_store.specs.Layout.{Layout, version_of, players_tree, with_ours}
+use Rattle.er_event.specs.Version.{IsVersion, Keeps}
+use Rattle.er_store.specs.Tables.{find_event, read_event}
+use Rattle.er_store.specs.Layout.{Layout, IsThere, table_at}
 use Rattle.er_store.specs.Rows.{event_columns, player_columns, pairing_columns, bracket_columns, tally_columns}
 use Rattle.er_store.specs.Shape.{event_table, player_table, pairing_table, bracket_table, tally_table}
 
 -- the tree is of none of the event's five tables
 abbrev pub IsOther : Layout → ℕ → Type 0
-IsOther layout tree =
-    (tree ≢ event_tree) × (tree ≢ players_tree layout) × (tree ≢ pairing_tree) × (tree ≢ bracket_tree) × (tree ≢ tally_tree)
+IsOther layout tree = (table : Place) → tree ≢ layout.tree table
 
--- a foreign key of another table that does not lead to one of the five
+-- a foreign key that does not lead to one of the five
 abbrev pub LeadsElsewhere : Layout → List Table → Reference → Type 0
 LeadsElsewhere layout tables ref = (key : ParentKey) → parent_key tables ref ≡ Some key → IsOther layout key.0
 
--- the tables of this layout stand first, and no other table refers to the event's
+-- The five tables of a version are there, whatever others stand before, between and after them, and no table refers to one of the five.
 pub record HasTablesAt (layout : Layout) (schema : Schema) : Type 0 where
-  pub others : List Table
-  pub are : schema.tables ≡ with_ours layout others
-  pub apart : AllByRecursion (λ t. AllByRecursion (LeadsElsewhere layout (with_ours layout others)) t.references) others
+  pub known : IsVersion layout.version
+  pub has : (table : Place) → (at : ℕ) × IsThere schema at (table_at layout table)
+  pub apart : AllByRecursion (λ t. AllByRecursion (LeadsElsewhere layout schema.tables) t.references) schema.tables
 
--- the tables of an event are there, in one of the ways in which they lie in this version; a schema may have them in both
+-- the tables of an event are there, as this version has them; a schema may have them in both
 abbrev pub HasTables : ℕ → Schema → Type 0
-HasTables version schema = (layout : Layout) × (version_of layout ≡ version) × HasTablesAt layout schema
+HasTables version schema = (layout : Layout) × (layout.version ≡ version) × HasTablesAt layout schema
 
 -- each row has a rowid of its own, and they rise
 pub record IsKeyed (rows : List Row) : Type 0 where
@@ -50,29 +49,25 @@ pub record IsKeyed (rows : List Row) : Type 0 where
   pub numbers : have_rowids rows ≡ true
 
 -- the rowids that no column shows
-pub record AreKeyed (db : Database) : Type 0 where
-  pub pairings : IsKeyed (db.trees pairing_tree)
-  pub bracket : IsKeyed (db.trees bracket_tree)
+pub record AreKeyedAt (layout : Layout) (db : Database) : Type 0 where
+  pub pairings : IsKeyed (db.trees (layout.tree PairingTable))
+  pub bracket : IsKeyed (db.trees (layout.tree BracketTable))
 
--- where a table is stored
-abbrev pub tree_of : Layout → Place → ℕ
-tree_of layout EventTable = event_table.tree layout
-tree_of layout PlayerTable = player_table.tree layout
-tree_of layout PairingTable = pairing_table.tree layout
-tree_of layout BracketTable = bracket_table.tree layout
-tree_of layout TallyTable = tally_table.tree layout
+-- of the tables of this version
+abbrev pub AreKeyed : ℕ → Database → Type 0
+AreKeyed version db = (layout : Layout) → layout.version ≡ version → HasTablesAt layout db.schema → AreKeyedAt layout db
 
--- what is read of a row of it
-abbrev pub shown_of : Layout → Place → Row → Row
-shown_of layout EventTable = event_table.shown layout
-shown_of layout PlayerTable = player_table.shown layout
-shown_of layout PairingTable = pairing_table.shown layout
-shown_of layout BracketTable = bracket_table.shown layout
-shown_of layout TallyTable = tally_table.shown layout
+-- what is read of a row of a table, in tables of this version
+abbrev pub shown_of : ℕ → Place → Row → Row
+shown_of version EventTable = event_table.shown version
+shown_of version PlayerTable = player_table.shown version
+shown_of version PairingTable = pairing_table.shown version
+shown_of version BracketTable = bracket_table.shown version
+shown_of version TallyTable = tally_table.shown version
 
 -- the rows of a table, as SQL shows them
 abbrev pub rows_in : Layout → Database → Place → List Row
-rows_in layout db table = map (shown_of layout table) (db.trees (tree_of layout table))
+rows_in layout db table = map (shown_of layout.version table) (db.trees (layout.tree table))
 
 -- the rows of an event in tables of this version, with these of totals
 abbrev pub rows_with : ℕ → EventValue → ℕ → List TallyRow → Place → List Row
@@ -87,22 +82,22 @@ pub record HasRows (layout : Layout) (db : Database) (wanted : Place → List Ro
   pub tables : HasTablesAt layout db.schema
   pub rows : (table : Place) → IsPermutation (rows_in layout db table) (wanted table)
   -- the rowids of these two are shown by no column
-  pub keyed : AreKeyed db
+  pub keyed : AreKeyedAt layout db
 
 -- the rows are those of an event that tables of this version can keep, with these rows of totals
 pub record RepresentsWith (layout : Layout) (db : Database) (e : EventValue) (serial : ℕ) (totals : List TallyRow) : Type 0 where
   pub low : serial ≤ MAX_SERIAL
-  pub keeps : Keeps (version_of layout) e
-  pub has : HasRows layout db (rows_with (version_of layout) e serial totals)
+  pub keeps : Keeps layout.version e
+  pub has : HasRows layout db (rows_with layout.version e serial totals)
 
 -- and the rows of totals are the event's too
 abbrev pub RepresentsAt : Layout → Database → EventValue → ℕ → Type 0
 RepresentsAt layout db e serial = RepresentsWith layout db e serial (tally_rows e)
 
--- in tables of this version, however they lie
+-- in tables of this version, wherever they stand
 pub record RepresentsIn (version : ℕ) (db : Database) (e : EventValue) (serial : ℕ) : Type 0 where
   pub layout : Layout
-  pub is : version_of layout ≡ version
+  pub is : layout.version ≡ version
   pub represents : RepresentsAt layout db e serial
 
 -- in either version, as the event's row says
@@ -148,7 +143,7 @@ pub record KeepsRest (layout : Layout) (old new : Database) : Type 0 where
   pub schema : new.schema ≡ old.schema
   pub rows : AllByRecursion (λ t. IsOther layout t.tree → new.trees t.tree ≡ old.trees t.tree) old.schema.tables
 
--- in tables of this version, however they lie; of `player` too, where a migration has left it
+-- in tables of this version, wherever they stand; of `player` too, where a migration has left it
 pub record KeepsOthers (version : ℕ) (old new : Database) : Type 0 where
   pub schema : new.schema ≡ old.schema
-  pub rest : (layout : Layout) → version_of layout ≡ version → HasTablesAt layout old.schema → KeepsRest layout old new
+  pub rest : (layout : Layout) → layout.version ≡ version → HasTablesAt layout old.schema → KeepsRest layout old new

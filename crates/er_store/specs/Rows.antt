@@ -1,5 +1,5 @@
 -- The rows of an event, as SQL shows them and as they are stored.
-use Rattle.std.specs.Prelude.{ℕ, ℤ, pos, Bool, List, [], ◌∷◌, ◌++◌, map, Option, Some, None}
+use Rattle.std.specs.Prelude.{ℕ, ℤ, pos, Bool, ◌==◌, if◌then◌else◌, List, [], ◌∷◌, ◌++◌, map, Option, Some, None}
 use Rattle.sqlite.specs.declared.types.Value.{Value}
 use Rattle.sqlite.specs.declared.types.Value.TheVariants.{Null, Int, Text}
 use Rattle.sqlite.specs.Order.{Row, column}
@@ -11,7 +11,6 @@ use Rattle.er_event.specs.declared.rows.tally.TallyRow.{TallyRow}
 use Rattle.er_event.specs.Event.{EventValue}
 use Rattle.er_store.specs.declared.rows.NamedPairing.{NamedPairing}
 use Rattle.er_event.specs.Rows.{flag, phase_code}
-use Rattle.er_store.specs.Layout.{Layout, Old, New, Moved}
 
 abbrev pub number_value : ℕ → Value
 number_value n = Int (pos n)
@@ -58,10 +57,8 @@ abbrev pub player2_places : List ℕ
 player2_places = 0 ∷ 2 ∷ 3 ∷ 4 ∷ []
 
 -- what is read of a stored player: version 1 doesn't store when one joined, and nobody has joined late in it
-abbrev pub player_shown : Layout → Row → Row
-player_shown Old row = at_places player_places row ++ number_value 0 ∷ []
-player_shown New row = at_places player2_places row
-player_shown Moved row = at_places player2_places row
+abbrev pub player_shown : ℕ → Row → Row
+player_shown version row = if version == 2 then at_places player2_places row else at_places player_places row ++ number_value 0 ∷ []
 
 abbrev pub pairing_places : List ℕ
 pairing_places = 1 ∷ 2 ∷ 3 ∷ 4 ∷ 5 ∷ 6 ∷ 7 ∷ 8 ∷ 9 ∷ []

@@ -11,8 +11,7 @@ use Rattle.er_event.specs.declared.rows.player.PlayerRow.{PlayerRow}
 use Rattle.er_event.specs.declared.rows.pairing.PairingRow.{PairingRow}
 use Rattle.er_event.specs.declared.rows.bracket.BracketRow.{BracketRow}
 use Rattle.er_event.specs.declared.rows.tally.TallyRow.{TallyRow}
-use Rattle.er_store.specs.Layout.{Layout, players_tree}
-use Rattle.er_store.specs.Tables.{event_tree, pairing_tree, bracket_tree, tally_tree, read_event, read_players_of, read_pairings}
+use Rattle.er_store.specs.Tables.{read_event, read_players_of, read_pairings}
 use Rattle.er_store.specs.Tables.{read_bracket, read_tallies}
 use Rattle.er_store.specs.Rows.{event_columns, player_columns, pairing_columns, bracket_columns, tally_columns, at_places, event_places}
 use Rattle.er_store.specs.Rows.{player_shown, pairing_places, bracket_places, tally_places}
@@ -23,13 +22,12 @@ pub record Form (R : Type 0) : Type 1 where
   pub width : ℕ
   pub columns : R → Row
 
--- a table of such rows: how a refusal names it, the statement that reads it in tables of a version, where its tree is,
--- what is read of a stored row, the order of its key, and the rows of an event with its serial in tables of a version
+-- a table of such rows: how a refusal names it, and in tables of a version the statement that reads it, what is read of a
+-- stored row, and the rows of an event with its serial; and the order of its key
 pub record Shape (R : Type 0) : Type 1 where
   pub place : Place
   pub read : ℕ → List ℕ
-  pub tree : Layout → ℕ
-  pub shown : Layout → Row → Row
+  pub shown : ℕ → Row → Row
   pub order : Row → Row → Ordering
   pub rows : ℕ → EventValue → ℕ → List R
 
@@ -52,8 +50,7 @@ abbrev pub event_table : Shape EventRow
 event_table = record {
   place = EventTable;
   read = λ version. read_event;
-  tree = λ layout. event_tree;
-  shown = λ layout. at_places event_places;
+  shown = λ version. at_places event_places;
   order = by_first;
   rows = λ version e s. event_row version e s ∷ [];
 }
@@ -62,7 +59,6 @@ abbrev pub player_table : Shape PlayerRow
 player_table = record {
   place = PlayerTable;
   read = read_players_of;
-  tree = players_tree;
   shown = player_shown;
   order = by_first;
   rows = λ version e s. player_rows e;
@@ -72,8 +68,7 @@ abbrev pub pairing_table : Shape PairingRow
 pairing_table = record {
   place = PairingTable;
   read = λ version. read_pairings;
-  tree = λ layout. pairing_tree;
-  shown = λ layout. at_places pairing_places;
+  shown = λ version. at_places pairing_places;
   order = by_first_two;
   rows = λ version e s. keyed_pairing_rows e;
 }
@@ -82,8 +77,7 @@ abbrev pub bracket_table : Shape BracketRow
 bracket_table = record {
   place = BracketTable;
   read = λ version. read_bracket;
-  tree = λ layout. bracket_tree;
-  shown = λ layout. at_places bracket_places;
+  shown = λ version. at_places bracket_places;
   order = by_first_two;
   rows = λ version e s. bracket_rows e;
 }
@@ -92,8 +86,7 @@ abbrev pub tally_table : Shape TallyRow
 tally_table = record {
   place = TallyTable;
   read = λ version. read_tallies;
-  tree = λ layout. tally_tree;
-  shown = λ layout. at_places tally_places;
+  shown = λ version. at_places tally_places;
   order = by_first;
   rows = λ version e s. tally_rows e;
 }

@@ -8,7 +8,7 @@ ghost use Rattle.er_event.specs.Sound.{IsSoundButForSeeds};
 ghost use Rattle.er_event.specs.Rows.{event_row, tally_rows};
 ghost use Rattle.er_event.specs.Parts.{IsFirstFault, parts_of};
 ghost use Rattle.er_event.specs.Version.{IsVersion};
-ghost use Rattle.er_store.specs.Layout.{Layout, version_of};
+ghost use Rattle.er_store.specs.Layout.{Layout};
 ghost use Rattle.er_store.specs.Representing.{HasTables, RepresentsAt};
 ghost use Rattle.er_store.specs.Loading.{HoldsEvent};
 ghost use Rattle.er_store.specs.Damage.{says_second, said_version, ReadsParts, ReadsTallies, IsRowFault, IsAtFault, IfDamaged};
@@ -153,7 +153,7 @@ pub fn load_tables<S: Alter>(
     ensures found { HasCleanDisk (state S.Store conn.new)
         → (l : Layout) (e : EventValue) (s : ℕ) → RepresentsAt l (state S.Store conn.old).now e s
         → IsSoundButForSeeds e
-        → MatchResult result (λ it. (it.0 ≡ e) × (it.1 ≡ s) × (it.2 ≡ version_of l)) IsFault }
+        → MatchResult result (λ it. (it.0 ≡ e) × (it.1 ≡ s) × (it.2 ≡ l.version)) IsFault }
     ensures fault { IfErr result IsLoadFault }
     ensures reads { HasCleanDisk (state S.Store conn.new)
         → IfOk result (λ it. ReadsParts (state S.Store conn.old).now (parts_of it.2 it.0 it.1)

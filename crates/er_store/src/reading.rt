@@ -5,7 +5,7 @@ ghost use Rattle.er_event.specs.Event.{EventValue};
 ghost use Rattle.er_event.specs.Sound.{IsSoundButForSeeds};
 ghost use Rattle.er_event.specs.declared.refusals.Place.{Place};
 ghost use Rattle.er_event.specs.declared.refusals.Refusal.{Refusal};
-ghost use Rattle.er_store.specs.Layout.{Layout, version_of};
+ghost use Rattle.er_store.specs.Layout.{Layout};
 ghost use Rattle.er_store.specs.Representing.{RepresentsAt, RepresentsIn};
 ghost use Rattle.er_store.specs.Tables.{read_slip_of};
 ghost use Rattle.er_store.specs.Damage.{IsMisreadAs};
@@ -35,7 +35,7 @@ pub fn read_table<T: TableRow, S: Alter>(
         → IfErr result (λ why. (at : Place) → reading_refusal T.table.place why ≡ Refusal.Damaged at
         → IsMisreadAs T.form (T.table.read version) (state S.Store conn.old).now) }
     ensures refused { HasCleanDisk (state S.Store conn.new) → (l : Layout)
-        → T.table.read (version_of l) ≡ T.table.read version → (e : EventValue) (s : ℕ)
+        → T.table.read l.version ≡ T.table.read version → (e : EventValue) (s : ℕ)
         → RepresentsAt l (state S.Store conn.old).now e s → IsSoundButForSeeds e
         → FailsToRead S.Store conn.old result conn.new }
 {

@@ -12,8 +12,8 @@ ghost use Rattle.er_store.specs.inside.Totals.{set_for};
 ghost use Rattle.er_event.specs.declared.totals.Totals.{Totals};
 ghost use Rattle.er_event.specs.declared.matches.Match.{Match};
 ghost use Rattle.er_store.specs.Tables as ours;
-ghost use Rattle.er_store.specs.Representing.{HasTablesAt, RepresentsWith};
-ghost use Rattle.er_store.specs.Layout.{Layout, Old, version_of, players_tree};
+ghost use Rattle.er_store.specs.Representing.{RepresentsWith};
+ghost use Rattle.er_store.specs.Layout.{Layout};
 ghost use Rattle.er_store.specs.inside.Steps.{Ran, Puts, BringsToWith};
 ghost use Rattle.er_store.specs.inside.Within.{tx_state, Lends, Achieves, Brings, Counts, Inside, HasPlayer};
 ghost use Rattle.er_store.specs.inside.Making.{IsFound};
@@ -64,9 +64,9 @@ pub fn insert_player2<S: Alter>(
     joined: u32,
 ) -> Result<(), Error>
     ensures lends { Lends S.Store tx.old tx.new }
-    ensures puts { (l : Layout) → version_of l ≡ 2
-        → HasTablesAt l (tx_state S.Store tx.old).now.schema
-        → Achieves S.Store (Puts (players_tree l) (stored_player2 number name.now dropped joined))
+    ensures puts { (at tree : ℕ)
+        → IsFound (tx_state S.Store tx.old).now.schema at (ours.player2 tree)
+        → Achieves S.Store (Puts tree (stored_player2 number name.now dropped joined))
         tx.old result tx.new }
 {
     run(tx, INSERT_PLAYER2, params![number, name, dropped, joined])
@@ -129,8 +129,8 @@ pub const SET_DROPPED: &str = "UPDATE player SET dropped = 1 WHERE no = ?1";
 /// Drops the player of this number in the table of version 1.
 pub fn set_dropped<S: Alter>(tx: &mut Transaction<'_, S>, number: u32) -> Result<(), Error>
     ensures lends { Lends S.Store tx.old tx.new }
-    ensures makes { (e : EventValue) → HasPlayer e number
-        → Brings S.Store Old e (with_dropped e number) tx.old result tx.new }
+    ensures makes { (l : Layout) (e : EventValue) → l.version ≡ 1 → HasPlayer e number
+        → Brings S.Store l e (with_dropped e number) tx.old result tx.new }
 {
     run(tx, SET_DROPPED, params![number])
 }
@@ -140,7 +140,7 @@ pub const SET_DROPPED2: &str = "UPDATE player2 SET dropped = 1 WHERE no = ?1";
 /// Drops the player of this number in the table of version 2.
 pub fn set_dropped2<S: Alter>(tx: &mut Transaction<'_, S>, number: u32) -> Result<(), Error>
     ensures lends { Lends S.Store tx.old tx.new }
-    ensures makes { (l : Layout) (e : EventValue) → version_of l ≡ 2 → HasPlayer e number
+    ensures makes { (l : Layout) (e : EventValue) → l.version ≡ 2 → HasPlayer e number
         → Brings S.Store l e (with_dropped e number) tx.old result tx.new }
 {
     run(tx, SET_DROPPED2, params![number])

@@ -19,7 +19,7 @@ ghost use Rattle.er_store.specs.inside.Totals.{set_for};
 ghost use Rattle.er_event.specs.declared.matches.Match.{Match};
 ghost use Rattle.er_store.specs.inside.Steps.{IsStage};
 ghost use Rattle.er_store.specs.Tables.{no_schema, tally_schema};
-ghost use Rattle.er_store.specs.Layout.{Layout, version_of};
+ghost use Rattle.er_store.specs.Layout.{Layout};
 ghost use Rattle.er_store.specs.Representing.{RepresentsAt, IsStoredIn, IsNew, RepresentsNow, AfterCrash, Either, KeepsOthers, CanRead};
 ghost use Rattle.er_store.specs.Representing.{ReadsEvent};
 ghost use Rattle.er_store.specs.Beside.{HoldsBeside, IsStoredBeside};
@@ -132,7 +132,7 @@ fn add_player<S: Alter>(
     joined: u32,
 ) -> Result<(), Error>
     ensures lends { Lends S.Store tx.old tx.new }
-    ensures makes { (l : Layout) (e : EventValue) → version_of l ≡ version
+    ensures makes { (l : Layout) (e : EventValue) → l.version ≡ version
         → number ≡ length e.players + 1 → joined ≡ length e.stored → (version ≡ 1 → joined ≡ 0)
         → Brings S.Store l e (with_player e name.now) tx.old result tx.new }
 {
@@ -146,7 +146,7 @@ fn add_player<S: Alter>(
 /// Drops the player of this number in the table of this version.
 fn drop_player<S: Alter>(tx: &mut Transaction<'_, S>, version: u8, number: u32) -> Result<(), Error>
     ensures lends { Lends S.Store tx.old tx.new }
-    ensures makes { (l : Layout) (e : EventValue) → version_of l ≡ version → HasPlayer e number
+    ensures makes { (l : Layout) (e : EventValue) → l.version ≡ version → HasPlayer e number
         → Brings S.Store l e (with_dropped e number) tx.old result tx.new }
 {
     if version == 1 {
@@ -166,7 +166,7 @@ fn change_rows<S: Alter>(
     requires fits { Fits event.now change.now }
     requires takes { CanTake version event.now change.now }
     ensures lends { Lends S.Store tx.old tx.new }
-    ensures makes { (l : Layout) → version_of l ≡ version
+    ensures makes { (l : Layout) → l.version ≡ version
         → Brings S.Store l event.now (after event.now change.now) tx.old result tx.new }
 {
     match change {
@@ -295,7 +295,7 @@ fn change_tables<S: Alter>(
     requires fits { Fits event.now change.now }
     requires takes { CanTake version event.now change.now }
     ensures lends { Lends S.Store tx.old tx.new }
-    ensures makes { (l : Layout) → version_of l ≡ version → (s : ℕ)
+    ensures makes { (l : Layout) → l.version ≡ version → (s : ℕ)
         → RepresentsAt l (tx_state S.Store tx.old).now event.now s
         → Achieves S.Store (λ a b. BringsTo l a b (after event.now change.now) s)
         tx.old result tx.new }
@@ -323,7 +323,7 @@ fn change_event<S: Alter>(
     requires takes { CanTake version event.now change.now }
     requires low { serial < MAX_SERIAL }
     ensures lends { Lends S.Store tx.old tx.new }
-    ensures makes { (l : Layout) → version_of l ≡ version
+    ensures makes { (l : Layout) → l.version ≡ version
         → RepresentsAt l (tx_state S.Store tx.old).now event.now serial
         → Achieves S.Store (λ a b. BringsTo l a b (after event.now change.now) (serial + 1))
         tx.old result tx.new }

@@ -25,7 +25,7 @@ use Rattle.er_event.specs.declared.refusals.Refusal.TheVariants.{Damaged}
 use Rattle.er_event.specs.declared.refusals.Place.{Place}
 use Rattle.er_event.specs.declared.rows.tally.TallyRow.{TallyRow}
 use Rattle.sqlite.specs.Term.{Term}
-use Rattle.er_store.specs.Layout.{Layout, version_of}
+use Rattle.er_store.specs.Layout.{Layout}
 use Rattle.er_store.specs.Shape.{Form, Shape, tally_form, tally_table}
 use Rattle.er_store.specs.Reading.{Lists, first_columns}
 use Rattle.er_store.specs.Representing.{HasTablesAt, RepresentsAt, Represents}
@@ -49,15 +49,16 @@ begins_select (Err e) = false
 pub record IsOurs {R : Type 0} (form : Form R) (table : Shape R) : Type 0 where
   pub begins : (version : ℕ) → begins_select (first (table.read version)) ≡ true
   pub keys : List ℕ
-  pub terms : Layout → List Term
+  pub terms : ℕ → List Term
   pub selects : (l : Layout) (schema : Schema) → HasTablesAt l schema
-      → Selects (table.read (version_of l)) (table_query (table.tree l) (terms l) keys) schema
+      → Selects (table.read l.version) (table_query (l.tree table.place) (terms l.version) keys) schema
   pub lists : (l : Layout) (trees : Trees) (rows : List Row)
-      → IsAnswer (table_query (table.tree l) (terms l) keys) (overlay trees []) [] rows
-      → Lists table.order (map (table.shown l) (trees (table.tree l))) rows
-  pub whole : (l : Layout) (r : Row) → first_columns form.width (table.shown l r) ≡ table.shown l r
+      → IsAnswer (table_query (l.tree table.place) (terms l.version) keys) (overlay trees []) [] rows
+      → Lists table.order (map (table.shown l.version) (trees (l.tree table.place))) rows
+  pub whole : (l : Layout) (r : Row) → first_columns form.width (table.shown l.version r) ≡ table.shown l.version r
   pub exact : (l : Layout) (db : Database) (e : EventValue) (s : ℕ) (rows : List Row) → RepresentsAt l db e s → IsSoundButForSeeds e
-      → Lists table.order (map (table.shown l) (db.trees (table.tree l))) rows → rows ≡ map form.columns (table.rows (version_of l) e s)
+      → Lists table.order (map (table.shown l.version) (db.trees (l.tree table.place))) rows
+      → rows ≡ map form.columns (table.rows l.version e s)
   pub same : (r s : R) → form.columns r ≡ form.columns s → r ≡ s
 
 -- It only looks, and what is found is of the database before.
@@ -73,21 +74,21 @@ pub record LooksUp {S A : Type 0} (g : Ghosts S) (Finds : Database → A → Typ
 -- they list them, and as the event has them.
 pub record FindsRows {R : Type 0} (form : Form R) (table : Shape R) (sql : List ℕ) (db : Database) (rows : List R) : Type 0 where
   pub reads : MayRead form sql db rows
-  pub lists : (l : Layout) → table.read (version_of l) ≡ sql → HasTablesAt l db.schema → IsListed form table l db rows
-  pub exact : (l : Layout) → table.read (version_of l) ≡ sql → (e : EventValue) (s : ℕ) → RepresentsAt l db e s → IsSoundButForSeeds e
-      → rows ≡ table.rows (version_of l) e s
+  pub lists : (l : Layout) → table.read l.version ≡ sql → HasTablesAt l db.schema → IsListed form table l db rows
+  pub exact : (l : Layout) → table.read l.version ≡ sql → (e : EventValue) (s : ℕ) → RepresentsAt l db e s → IsSoundButForSeeds e
+      → rows ≡ table.rows l.version e s
 
 -- where the tables stand, memory or the device; and damage is of this table
 pub record MissesRows {R : Type 0} (form : Form R) (table : Shape R) (sql : List ℕ) (db : Database) (why : Refusal) : Type 0 where
   pub misread : (at : Place) → why ≡ Damaged at → (at ≡ table.place) × IsMisreadAs form sql db
-  pub refused : (l : Layout) → table.read (version_of l) ≡ sql → (e : EventValue) (s : ℕ) → RepresentsAt l db e s → IsSoundButForSeeds e
+  pub refused : (l : Layout) → table.read l.version ≡ sql → (e : EventValue) (s : ℕ) → RepresentsAt l db e s → IsSoundButForSeeds e
       → IsFault why
 
 -- the rows of the four tables that an event is made of
 pub record FindsParts (db : Database) (parts : Parts) : Type 0 where
   pub reads : ReadsParts db parts
-  pub lists : (l : Layout) → said_version parts.event ≡ version_of l → HasTablesAt l db.schema → ListsParts l db parts
-  pub exact : (l : Layout) (e : EventValue) (s : ℕ) → RepresentsAt l db e s → IsSoundButForSeeds e → parts ≡ parts_of (version_of l) e s
+  pub lists : (l : Layout) → said_version parts.event ≡ l.version → HasTablesAt l db.schema → ListsParts l db parts
+  pub exact : (l : Layout) (e : EventValue) (s : ℕ) → RepresentsAt l db e s → IsSoundButForSeeds e → parts ≡ parts_of l.version e s
 
 -- the rows are those of this sound event and serial, in tables of this version, which keep it
 pub record IsWhole (parts : Parts) (e : EventValue) (serial version : ℕ) : Type 0 where

@@ -5,7 +5,8 @@ use Rattle.er_store.proofs.Prelude.{HasTables, Represents, RepresentsAt, Represe
 use Rattle.er_store.proofs.Prelude.{RepresentsNow, TakesParameters, unchanged_then}
 use Rattle.sqlite.specs.Effect.{IsDatabase}
 use Rattle.er_store.specs.{Loading.HoldsEvent, Representing.ReadsEvent}
-use Rattle.er_store.proofs.{Meaning.event_selected, Effects.at_ours}
+use Rattle.er_store.proofs.Prelude.{EventTable}
+use Rattle.er_store.proofs.{Listing.event_listed}
 use Rattle.er_store.proofs.{LoadLemmas.{kept_tables, kept_represents, then_keeps, unchanged_keeps, represents_where}}
 use Rattle.er_store.proofs.Crash.{shows_leaves_in, survives_both, only, was_clean}
 use Rattle.er_store.proofs.Store.adopt.Given as given
@@ -16,8 +17,7 @@ takes_ok n sql (Ok c) takes = refl
 takes_ok n sql (Err e) takes = absurd takes
 
 reads_ours : (l : Layout) (schema : Schema) → HasTablesAt l schema → ReadsEvent schema
-reads_ours l schema has = at_ours schema has ReadsEvent
-    (takes_ok 0 read_event _ (event_selected has.others schema.indexes schema.views l).whole)
+reads_ours l schema has = takes_ok 0 read_event _ (event_listed (has.has EventTable).1).whole
 
 -- the first look leaves what it saw
 same : (g : given.Over) (c : goal.After-result-1 g) → HasCleanDisk (state g.S.Store c.load_tables.new.conn)

@@ -1,6 +1,6 @@
 use Rattle.er_store.proofs.Prelude.{◌≡◌, ◌∙◌, IsUnchanged, inl, inr, refl, sym, subst, true≢false, rules, state, no_schema, CanRead}
 use Rattle.er_store.proofs.Prelude.{HasCleanDisk}
-use Rattle.er_store.proofs.{LoadLemmas.{schema_kept, unchanged_keeps, then_keeps}, Meaning.unreadable, Effects.can_read}
+use Rattle.er_store.proofs.{LoadLemmas.{schema_kept, unchanged_keeps, then_keeps}, Meaning.unreadable, Layouts.can_read}
 use Rattle.er_store.proofs.{Crash.{only, was_clean}}
 use Rattle.er_store.proofs.Beside.{shown_beside, stored_beside}
 use Rattle.er_store.proofs.Store.create_in.Goals as goal

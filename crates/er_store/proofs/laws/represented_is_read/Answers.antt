@@ -1,4 +1,4 @@
-use Rattle.er_store.proofs.Effects.{can_read}
+use Rattle.er_store.proofs.Layouts.{can_read}
 use Rattle.er_store.proofs.laws.represented_is_read.Goals as goal
 
 pub returns : goal.returns

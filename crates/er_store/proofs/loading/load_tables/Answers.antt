@@ -1,8 +1,8 @@
 use Rattle.er_store.proofs.Prelude.{state, inl, inr, rules, sym, ◌∙◌, IfOk-weaker, IfErr-weaker, IsFault, refl, ap, subst, ◌≡◌, ℕ, List}
-use Rattle.er_store.proofs.Prelude.{version_of, HasTables, Database, Parts, EventValue, TallyRow, tally_rows}
+use Rattle.er_store.proofs.Prelude.{HasTables, Database, Parts, EventValue, TallyRow, tally_rows}
 use Rattle.er_event.specs.Parts.{IsOf}
 use Rattle.er_store.specs.{Loading.{HoldsEvent, ListsTallies}, Damage.said_version, inside.Lookup.{IsWhole, FindsParts}}
-use Rattle.er_store.proofs.Layouts.{said_is, known_layout}
+use Rattle.er_store.proofs.Layouts.{said_is}
 use Rattle.std.proofs.lemmas.Result.{MatchResult-from_both}
 use Rattle.er_store.proofs.Lending.{looks_as, looks_fail}
 use Rattle.er_store.specs.{Damage.{IsAtFault, IfDamaged}, Fault.IsLoadFault}
@@ -15,8 +15,8 @@ holds : {db : Database} {parts : Parts} {rows : List TallyRow} {e : EventValue} 
     → FindsParts db parts → rows ≡ tally_rows e → ListsTallies has.0 db rows → HoldsEvent v db e s
 holds {db} {parts} {rows} {e} {s} {v} (l, is, has) whole finds counted totals =
     let here = subst (IsWhole parts e s) (sym is) whole in
-    let says : said_version parts.event ≡ version_of l =
-    ap (λ (p : Parts). said_version p.event) here.are ∙ said_is (version_of l) here.known e s in
+    let says : said_version parts.event ≡ l.version =
+    ap (λ (p : Parts). said_version p.event) here.are ∙ said_is l.version here.known e s in
     record {
       layout = l;
       is = is;
@@ -63,16 +63,16 @@ returns g c =
       found = λ clean l e s represents sound.
           let finds = looks.finds clean in
           let counted = c.as_slice.ensures ∙ finds.1.exact l refl e s represents sound in
-          let it : IsWhole parts e s (version_of l) = record {
-            known = known_layout l;
+          let it : IsWhole parts e s l.version = record {
+            known = represents.has.tables.known;
             keeps = represents.keeps;
             low = represents.low;
             are = finds.0.exact l e s represents sound;
             sound = sound;
           } in
           let of : IsOf parts e =
-          record { version = version_of l; known = it.known; keeps = it.keeps; serial = s; low = it.low; are = it.are } in
-          MatchResult-from_both c.counted_event_of.result _ _ (made.only (version_of l) e s it counted)
+          record { version = l.version; known = it.known; keeps = it.keeps; serial = s; low = it.low; are = it.are } in
+          MatchResult-from_both c.counted_event_of.result _ _ (made.only l.version e s it counted)
           (IfErr-weaker c.counted_event_of.result _ _ (λ why refused. elim refused [
             | inl memory ↦ inl memory
             | inr damaged ↦ absurd (no_row_fault parts e of sound c.as_slice.result.now counted damaged.0 damaged.2)

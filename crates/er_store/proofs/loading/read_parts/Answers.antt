@@ -1,9 +1,9 @@
 use Rattle.er_store.proofs.Prelude.{rules, refl, ap, sym, ◌∙◌, ◌≡◌, EventTable, PlayerTable, PairingTable, BracketTable, read_players_of}
 use Rattle.er_store.proofs.Prelude.{List, Layout}
-use Rattle.er_store.proofs.Prelude.{version_of, Database, EventValue, IsSoundButForSeeds, RepresentsAt, ℕ, read_event}
+use Rattle.er_store.proofs.Prelude.{Database, EventValue, IsSoundButForSeeds, RepresentsAt, ℕ, read_event}
 use Rattle.er_event.specs.declared.rows.event.EventRow.{EventRow}
 use Rattle.er_store.specs.{Damage.said_version, inside.Lookup.FindsRows, Shape.{event_form, event_table}}
-use Rattle.er_store.proofs.{Layouts.{said_is, known_layout}, TableLemmas.{event_is_ours, player_is_ours, pairing_is_ours, bracket_is_ours}}
+use Rattle.er_store.proofs.{Layouts.said_is, TableLemmas.{event_is_ours, player_is_ours, pairing_is_ours, bracket_is_ours}}
 use Rattle.er_store.proofs.TableLemmas.{looks_then, found_as, missed_as, first_misread}
 use Rattle.er_store.proofs.loading.read_parts.Goals as goal
 
@@ -22,9 +22,9 @@ load_rows-requires-4 g c = bracket_is_ours
 -- where the tables stand, the rows of the event say which version they are of
 said : {db : Database} {events : List EventRow} → FindsRows event_form event_table read_event db events
     → (l : Layout) (e : EventValue) (s : ℕ)
-    → RepresentsAt l db e s → IsSoundButForSeeds e → said_version events ≡ version_of l
+    → RepresentsAt l db e s → IsSoundButForSeeds e → said_version events ≡ l.version
 said {events = events} event l e s represents sound =
-    ap said_version (event.exact l refl e s represents sound) ∙ said_is (version_of l) (known_layout l) e s
+    ap said_version (event.exact l refl e s represents sound) ∙ said_is l.version represents.has.tables.known e s
 
 pub returns-in_err-event : goal.returns-in_err-event
 returns-in_err-event g c =

@@ -1,5 +1,7 @@
-use Rattle.er_store.proofs.Prelude.{◌≡◌, ◌+◌, [], ◌∷◌, ◌++◌, take, take_more, take_all, refl, sym, ap, ◌∙◌, Player, Moved}
+use Rattle.er_store.proofs.Prelude.{◌≡◌, ◌+◌, [], ◌∷◌, ◌++◌, take, take_more, take_all, sym, ap, ◌∙◌, Player, PlayerTable, moved_tree}
 use Rattle.er_store.proofs.{Lending.{lends_self, lends_then}, Crash.was_clean, Migrating.{moving_then, moving_here, player2_added}}
+use Rattle.er_store.proofs.Layouts.{found}
+use Rattle.er_store.specs.inside.Moving.{moved_layout}
 use Rattle.er_store.proofs.migration.copy_players.Goals as goal
 
 pub loop-player-init : goal.loop-player-init
@@ -17,7 +19,7 @@ loop-player-preserved g c =
       λ clean e s former here.
           let was = so_far.1 (was_clean c.insert_player2.ensures.lends.stays.survives clean) e s former here in
           let put = rw (c.from-number.ensures, c.from-joined.ensures, c.get.ensures.value, c.as_str.ensures.value) at
-          (c.in_ok-insert_player2.ensures.puts Moved refl was.has.tables clean) in
+          (c.in_ok-insert_player2.ensures.puts _ moved_tree (found moved_layout was.has.tables PlayerTable) clean) in
           rw more (moving_then was (player2_added p (moving_here was) put)),
     )
 

@@ -1,7 +1,7 @@
 use Rattle.er_store.proofs.Prelude.{inl, rules, true, ◌≡◌, ℕ, on_ok_weaker, HasCleanDisk, state, sym}
 use Rattle.er_store.proofs.Prelude.{true≢false}
 use Rattle.er_store.proofs.{Lending.{on_ok_later, dropped, committed}, Crash.{was_clean, survives_both}}
-use Rattle.er_store.proofs.{Crash.{shows_leaves_in, leaves_old}, MovedCrash.{moved_written, moved_leaves}, Layouts.in_first}
+use Rattle.er_store.proofs.{Crash.{shows_leaves_in, leaves_old}, MovedCrash.{moved_written, moved_leaves}, Migrating.stands_old}
 use Rattle.er_store.specs.{Migrated.IsVersion1Alone, inside.Moving.IsMoved}
 use Rattle.er_store.proofs.migration.migrate_tables.Given as given
 use Rattle.er_store.proofs.migration.migrate_tables.Goals as goal
@@ -12,7 +12,8 @@ moved : (g : given.Over) (c : goal.After-conn-2-1 g) → HasCleanDisk (state g.S
     → IsMoved (state g.S.Store c.move_players.new.tx.conn.now) c.args.event.now s
 moved g c late s may =
     let moves = rw c.transaction-tx.ensures.begun at c.in_ok-move_players.ensures.moves in
-    moves s (record { alone = may.alone; represents = in_first may.shows.represents }) (was_clean c.commit.ensures.survives late)
+    moves s (record { alone = may.alone; represents = stands_old may.alone may.shows.represents })
+    (was_clean c.commit.ensures.survives late)
 
 pub returns-clause-migrated : goal.returns-clause-migrated
 returns-clause-migrated g c clean s may =

@@ -1,24 +1,26 @@
 use Rattle.er_store.proofs.Prelude.{map-map, ◌≡◌, inl, inr, ℕ, List, [], ◌∷◌, map, ap, ◌∙◌, rules, IfOk-weaker, IfErr-weaker, Row, State}
 use Rattle.er_store.proofs.Prelude.{EventValue, IsSoundButForSeeds, number_value, named_columns, named_pairings, first_columns}
-use Rattle.er_store.proofs.Prelude.{Shown, Layout, players_tree, HasTablesAt}
+use Rattle.er_store.proofs.Prelude.{Shown, Layout, HasTablesAt, PairingTable, PlayerTable, ◌==◌}
 use Rattle.er_store.proofs.Prelude.{Schema, SelectsWith}
-use Rattle.er_store.proofs.{Meaning.{slip_selected, slip_query}, Refusals.{slip_refused, answers}}
+use Rattle.er_store.proofs.{Slipping.slip_means, Meaning.slip_query, Refusals.{slip_refused, answers}}
 use Rattle.er_store.proofs.{Crash.was_clean, Lending.no_ok, LoadLemmas.{unchanged_keeps, all_ok, all_err, told}}
 use Rattle.er_store.proofs.{Selecting.{commits_nothing, shows_unchanged, fails_keeping, slip_selects}, Exact.is_memory, Joined.slip_exact}
-use Rattle.er_store.proofs.{Joined.named_typed, Effects.selected}
-use Rattle.er_store.proofs.Prelude.{RepresentsIn, Database, read_slip_of, version_of, subst}
+use Rattle.er_store.proofs.{Joined.named_typed}
+use Rattle.er_store.proofs.Prelude.{RepresentsIn, Database, read_slip_of, subst}
 use Rattle.er_store.proofs.reading.read_slip.Goals as goal
 
 chosen : (k t : ℕ) (l : Layout) {schema : Schema} → HasTablesAt l schema
-    → SelectsWith (number_value k ∷ number_value t ∷ []) (read_slip_of (version_of l)) (slip_query (players_tree l)) schema
-chosen k t l has = selected has (λ others indexes views. slip_selected others indexes views k t l)
+    → SelectsWith (number_value k ∷ number_value t ∷ []) (read_slip_of l.version)
+    (slip_query (l.tree PairingTable) (l.tree PlayerTable)) schema
+chosen k t l has = slip_means (l.version == 2) (has.has PairingTable).1 (has.has PlayerTable).1 k t
 
 -- in tables of this version
 chosen_in : (k t v s : ℕ) (e : EventValue) (db : Database) (represents : RepresentsIn v db e s)
-    → SelectsWith (number_value k ∷ number_value t ∷ []) (read_slip_of v) (slip_query (players_tree represents.layout)) db.schema
+    → SelectsWith (number_value k ∷ number_value t ∷ []) (read_slip_of v)
+    (slip_query (represents.layout.tree PairingTable) (represents.layout.tree PlayerTable)) db.schema
 chosen_in k t v s e db represents =
     subst (λ version. SelectsWith (number_value k ∷ number_value t ∷ []) (read_slip_of version)
-    (slip_query (players_tree represents.layout)) db.schema) represents.is
+    (slip_query (represents.layout.tree PairingTable) (represents.layout.tree PlayerTable)) db.schema) represents.is
     (chosen k t represents.layout represents.represents.has.tables)
 
 exact : (k t v s : ℕ) (e : EventValue) (old new : State) {rows : List Row} → RepresentsIn v old.now e s → IsSoundButForSeeds e
@@ -42,8 +44,9 @@ returns-in_err-rows-clause-refused g c clean e s represents sound =
     let k = c.args.round in
     let t = c.args.table in
     let fails = rw (c.slip_text.ensures, c.params-to_sql.ensures, c.params-to_sql-2.ensures) at (c.in_err-rows.ensures.err clean) in
-    told c.from_residual.result c.in_err-rows.field-0.0 _ (search rules) (inr (slip_refused (players_tree represents.layout)
-    (number_value k ∷ number_value t ∷ []) _ _ _ (chosen_in k t c.args.version s e _ represents) fails))
+    told c.from_residual.result c.in_err-rows.field-0.0 _ (search rules) (inr (slip_refused (represents.layout.tree PairingTable)
+    (represents.layout.tree PlayerTable) (number_value k ∷ number_value t ∷ []) _ _ _
+    (chosen_in k t c.args.version s e _ represents) fails))
 
 pub returns : goal.returns
 returns g c =

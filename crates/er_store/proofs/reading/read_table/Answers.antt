@@ -1,4 +1,4 @@
-use Rattle.er_store.proofs.Prelude.{inl, inr, ◌∙◌, rules, IfOk-weaker, IfErr-weaker, version_of}
+use Rattle.er_store.proofs.Prelude.{inl, inr, ◌∙◌, rules, IfOk-weaker, IfErr-weaker}
 use Rattle.er_store.proofs.{TableLemmas.{refused, are_rows, finds_rows}, LoadLemmas.{unchanged_keeps, all_ok, all_err, told}}
 use Rattle.er_store.proofs.{Exact.is_memory, Refusals.{refused_damage, has_wrong_kind}, Selecting.{commits_nothing, shows_unchanged}}
 use Rattle.er_store.proofs.{Crash.was_clean, Lending.no_ok, Selecting.fails_keeping}
@@ -52,7 +52,7 @@ returns g c =
           let are = are_rows form table it version _ _ l serves (rw c.read.ensures at (c.in_ok-rows.ensures.ok clean)) e s represents
           sound in
           IfErr-weaker c.typed_rows.result _ _ (λ why never. inl (is_memory why
-          (λ unless. never unless (table.rows (version_of l) e s) (c.deref.ensures.value ∙ are))))
+          (λ unless. never unless (table.rows l.version e s) (c.deref.ensures.value ∙ are))))
           c.typed_rows.ensures.refused;
       looks = record {
         mode = search rules;

@@ -1,17 +1,22 @@
 use Rattle.er_store.proofs.Prelude.{inl, rules, subst, sym, true, ◌+◌, ◌≡◌, on_ok_weaker, HasCleanDisk}
 use Rattle.er_store.proofs.Prelude.{state, after, RepresentsNow}
-use Rattle.er_store.proofs.Prelude.{KeepsOthers, KeepsRest, IsReady, Layout, version_of, HasTablesAt, Database}
-use Rattle.er_store.proofs.Layouts.{one_layout}
+use Rattle.er_store.proofs.Prelude.{KeepsOthers, KeepsRest, IsReady, Layout, HasTablesAt, Database}
+use Rattle.er_store.proofs.Prelude.{all_weaker}
+use Rattle.er_store.proofs.Layouts.{same_trees, same_others}
 use Rattle.er_store.proofs.{Lending.{on_ok_later, dropped, committed}, Crash.{was_clean, survives_both, leaves_old, written}}
 use Rattle.er_store.proofs.Crash.{leaves_either, shows_leaves_in}
 use Rattle.er_store.proofs.transactions.write_tables.Given as given
 use Rattle.er_store.proofs.transactions.write_tables.Goals as goal
 
 -- a schema has one layout of a version
-rest_kept : (l : Layout) {old new : Database} → HasTablesAt l old.schema → KeepsRest l old new → KeepsOthers (version_of l) old new
+rest_kept : (l : Layout) {old new : Database} → HasTablesAt l old.schema → KeepsRest l old new → KeepsOthers l.version old new
 rest_kept l {old} {new} has keeps = record {
   schema = keeps.schema;
-  rest = λ m is more. subst (λ at. KeepsRest at old new) (one_layout l m (sym is) has more) keeps;
+  rest = λ m is more. record {
+    schema = keeps.schema;
+    rows = all_weaker _ _ (λ t kept other. kept (same_others l m
+        (same_trees l m (sym is) has more) t.tree other)) old.schema.tables keeps.rows;
+  };
 }
 
 -- the change went well, as it did where the commit is reached

@@ -1,4 +1,4 @@
-use Rattle.std.proofs.{Common.{◌+◌, ◌∙◌, ℕ, refl, sym, subst}, Math.Logic.∥∥₁_map}
+use Rattle.std.proofs.{Common.{◌+◌, ◌∙◌, ℕ, inr, refl, sym, subst}, Math.Logic.∥∥₁_map}
 use Rattle.er_event.specs.Event.{EventValue}
 use Rattle.er_rules.specs.Sound.{IsSound}
 use Rattle.er_store.specs.Representing.{IsStoredIn, RepresentsNow}
@@ -41,5 +41,22 @@ returns-in-Ok g c =
           subst (λ (v : ℕ). IsStoredIn v c.in_ok-next.next (old.serial + 1) trees) (sym wrote.version)
           (subst (λ (e : EventValue). IsStoredIn (version_in old) e (old.serial + 1) trees) same
           (c.in-Ok.ensures.acknowledged shows clean trees may));
+      crash = wrote.crash c.requires.runs;
+    }
+
+-- the store has not, and has stopped
+pub returns-in-Err : goal.returns-in-Err
+returns-in-Err g c =
+    let wrote = c.write.ensures in
+    let stops = c.in-Err.ensures.stops c.requires.runs in
+    record {
+      taken = tt;
+      refused = inr (desk_state_same _ _ _ _ _ _ _ refl wrote.version stops.1, stops.0);
+      clean = wrote.clean;
+      written = λ clean shows. tt;
+      kept = c.in-Err.ensures.kept;
+      others = wrote.others;
+      version = wrote.version;
+      acknowledged = λ shows. tt;
       crash = wrote.crash c.requires.runs;
     }
