@@ -47,7 +47,7 @@ def test_script(program, path):
 
 def test_first_example(program):
     """The one that the gate runs too, as each of two compilers makes the program."""
-    assert program.fed(bytes_of(f"{TOP}/examples/friday.txt")) == (0, bytes_of(f"{TOP}/crates/event_reporter/stdout"), b"")
+    assert program.fed(bytes_of(f"{TOP}/crates/event_reporter/stdin")) == (0, bytes_of(f"{TOP}/crates/event_reporter/stdout"), b"")
 
 
 @pytest.mark.parametrize("size", [65_535, 65_536, 65_537, 70_000])

@@ -1,6 +1,6 @@
 """Writes the answers that examples and documents show, from the plain reading, and never from the program.
 
-These are the transcripts and *.answers in examples, the output of examples/friday.txt, what stands beneath the lines that README and GUIDE show, and
+These are the transcripts and *.answers in examples, the output of the script that the gate runs, what stands beneath the lines that README and GUIDE show, and
 the lists that EXAMPLES, RULES and other blocks of the documents have in common with these. A line is typed with a program of the plain reading. What that
 one doesn't have, such as a usage text, stays as it is. Read the diff; `scripts/test examples` then compares the program with all of it.
 """
@@ -19,8 +19,8 @@ from scripts.models.plain_script import Script
 
 TYPED = ("README.md", "docs/GUIDE.md")
 SHOWN = (*TYPED, "docs/EXAMPLES.md", "docs/RULES.md")
-# the first example, which the gate runs too
-FIRST, FIRST_ANSWERS = "examples/friday.txt", "crates/event_reporter/stdout"
+# the script that the gate runs too
+FIRST, FIRST_ANSWERS = "crates/event_reporter/stdin", "crates/event_reporter/stdout"
 FENCED = re.compile(r"(?<=^```\n)(.*?)(?=^```)", re.M | re.S)
 HEADINGS = ("Rank   No ", "  No D Name", " Tab    A ", " Stg Slot ", "no,name,dropped", "round,table,")
 EXAMPLES = """\
