@@ -5,11 +5,11 @@ from companions.program import Declined
 from companions.rosters import path_and_codec, read_list, roster_of, tidy, written_list
 from scripts.clients.random_evenings import HOSTILE
 
-# as GUIDE shows them
+# as COMMANDS shows them
 CLUB = b"Club;First name;Last name\nOwls;Gus;Lima\n;Hal;Sato\n;Gus;Lima\n"
 
 
-def test_the_list_of_the_guide():
+def test_the_list_of_the_document():
     roster = roster_of(CLUB, set())
     assert roster.how == "UTF-8, semicolons, the columns First name and Last name"
     assert roster.names == ["Gus Lima", "Hal Sato"]

@@ -1,4 +1,4 @@
-"""Proxies before event-phones, as docs/GUIDE.md has them but for TLS, for which a test has no certificate that anybody knows."""
+"""Proxies before event-phones, as docs/PHONES.md has them but for TLS, for which a test has no certificate that anybody knows."""
 import contextlib
 import os
 import re
@@ -11,9 +11,9 @@ from scripts.clients.phone_rooms import Gateway
 from scripts.clients.serving import free_port
 from scripts.clients.waiting import comes
 
-# the name in the guide, and where its proxies find event-phones
+# the name in that document, and where its proxies find event-phones
 NAME, BEHIND = "scores.example.org", "127.0.0.1:8080"
-# lines before and after what the guide has, by which each goes on as a user's process
+# lines before and after what it has, by which each goes on as a user's process
 AROUND = {
     "caddy": ("{\n admin off\n auto_https off\n default_bind 127.0.0.1\n}\n", ""),
     "nginx": ("pid %s/pid;\nerror_log stderr error;\nevents {}\nhttp {\n%s\n", "}\n"),
@@ -21,9 +21,9 @@ AROUND = {
 ROOMS_OF_NGINX = ("client_body", "proxy", "fastcgi", "uwsgi", "scgi")
 
 
-def of_the_guide(kind):
-    """The configuration that the guide shows."""
-    with open(f"{TOP}/docs/GUIDE.md", encoding="utf-8") as it:
+def documented(kind):
+    """The configuration that the document shows."""
+    with open(f"{TOP}/docs/PHONES.md", encoding="utf-8") as it:
         blocks = re.findall(r"^```\w*\n(.*?)^```$", it.read(), re.M | re.S)
     words = {"caddy": "reverse_proxy", "nginx": "proxy_pass"}[kind]
     return next(it for it in blocks if words in it)
@@ -36,8 +36,8 @@ def command_of(kind):
 
 def configured(kind, room, port, behind):
     """The same, at this port of this machine and without TLS."""
-    text = of_the_guide(kind)
-    assert NAME in text and BEHIND in text, f"the guide's {kind}"
+    text = documented(kind)
+    assert NAME in text and BEHIND in text, f"the {kind} of docs/PHONES.md"
     text = re.sub(r"^ *ssl_.*\n", "", text, flags=re.M).replace(BEHIND, behind).replace("listen 443 ssl", f"listen 127.0.0.1:{port}")
     before, after = AROUND[kind]
     if kind == "caddy":

@@ -16,6 +16,9 @@ from scripts.models.plain_file import read
 # the evening that README shows, whose lines are typed behind a prompt
 EVENING = re.compile(r"(?<=^```\n\$ event-desk friday\.event\n)(.*?)(?=^```)", re.M | re.S)
 TYPED = re.compile(r"((?:desk|r\d|playoff)> )(.*)")
+# that of GUIDE, in blocks of their own
+PART_OF_EVENING = re.compile(r"(?<=^```prompt\n)(.*?)(?=^```)", re.M | re.S)
+KEY = "0" * 64
 
 
 def test_an_evening_through_a_pipe(prompt, room):
@@ -89,6 +92,8 @@ def test_menus(prompt, started):
 class ShownEvening:
     """An evening as README shows it. What it leaves out is played too: each other table ends 2-0, and the first die of a round is its number."""
 
+    pair = "pair"
+
     def __init__(self, terminal, file):
         self.terminal, self.file, self.said, self.line, self.shown, self.typed = terminal, file, terminal.began, "", [], 0
 
@@ -98,7 +103,7 @@ class ShownEvening:
         self.shown = []
 
     def type(self, line):
-        self.said = self.terminal.send(line.replace("examples/", f"{TOP}/examples/"))
+        self.said = self.terminal.send(re.sub("^pair(?= [0-9]+$|$)", self.pair, line.replace("examples/", f"{TOP}/examples/")))
 
     def read(self, line):
         """A line of README."""
@@ -151,3 +156,22 @@ def test_the_evening_of_the_readme(prompt, room, extras):
     assert terminal.end("quit\r")[0] == 0
     ran = subprocess.run([sys.executable, "-B", f"{extras}/event-check", file], capture_output=True, timeout=PATIENCE)
     assert ran.stdout.decode().endswith(f"\n{check}")
+
+
+class GuidedEvening(ShownEvening):
+    """An evening as GUIDE shows it, with a key that is known."""
+
+    pair = f"pair {KEY}"
+
+
+def test_the_evening_of_the_guide(prompt, room):
+    """What is typed there, and what it is answered, from the first player to the champion."""
+    with open(f"{TOP}/docs/GUIDE.md", encoding="utf-8") as guide:
+        blocks = PART_OF_EVENING.findall(guide.read())
+    file = f"{room}/friday.event"
+    terminal = prompt.terminal(file)
+    evening = GuidedEvening(terminal, file)
+    for line in "".join(blocks).replace("$ event-desk friday.event\n", "").splitlines():
+        evening.read(line)
+    assert (evening.line, len(blocks)) == ("quit", 4)
+    assert terminal.end("quit\r")[0] == 0

@@ -11,6 +11,8 @@ from scripts import TOP
 from scripts.clients.serving import free_port
 from scripts.clients.waiting import PATIENCE
 
+# documents whose lines are typed, each after the one before it in one folder
+TOURS = (("README.md",), ("docs/COMMANDS.md", "docs/REPAIR.md"))
 PORT = "8080"
 BLOCK = re.compile(r"(?<=^```console\n)(.*?)(?=^```)", re.M | re.S)
 
@@ -23,11 +25,12 @@ def steps_of(block):
 
 
 class Tour:
-    """One document, in its folder."""
+    """One document, or several that belong together, in their folder."""
 
     def __init__(self, room, program):
         os.mkdir(f"{room}/commands")
-        os.symlink(os.path.abspath(program), f"{room}/commands/event_reporter")
+        for place in (f"{room}/commands", room):
+            os.symlink(os.path.abspath(program), f"{place}/event_reporter")
         shutil.copytree(f"{TOP}/examples", f"{room}/examples")
         path = ":".join((f"{room}/commands", f"{TOP}/extras", os.environ["PATH"]))
         env = {**os.environ, "PATH": path, "EVENT_REPORTER": f"{room}/commands/event_reporter", "PYTHONDONTWRITEBYTECODE": "1"}

@@ -1,7 +1,7 @@
 """Writes the answers that examples and documents show, from the plain reading, and never from the program.
 
-These are the transcripts and *.answers in examples, the output of the script that the gate runs, what stands beneath the lines that README and GUIDE show, and
-the lists that EXAMPLES, RULES and other blocks of the documents have in common with these. A line is typed with a program of the plain reading. What that
+These are the transcripts and *.answers in examples, the output of the script that the gate runs, what stands beneath the lines that README,
+COMMANDS and REPAIR show, and the lists that EXAMPLES, RULES and other blocks of the documents have in common with these. A line is typed with a program of the plain reading. What that
 one doesn't have, such as a usage text, stays as it is. Read the diff; `scripts/test examples` then compares the program with all of it.
 """
 import argparse
@@ -12,13 +12,12 @@ import sys
 import tempfile
 
 from scripts import TOP
-from scripts.clients.tour import BLOCK, Tour, is_left_out, steps_of
+from scripts.clients.tour import BLOCK, TOURS, Tour, is_left_out, steps_of
 from scripts.clients.transcripts import sent
 from scripts.models import plain_program
 from scripts.models.plain_script import Script
 
-TYPED = ("README.md", "docs/GUIDE.md")
-SHOWN = (*TYPED, "docs/EXAMPLES.md", "docs/RULES.md")
+SHOWN = ("README.md", "docs/GUIDE.md", "docs/COMMANDS.md", "docs/REPAIR.md", "docs/EXAMPLES.md", "docs/RULES.md")
 # the script that the gate runs too
 FIRST, FIRST_ANSWERS = "crates/event_reporter/stdin", "crates/event_reporter/stdout"
 FENCED = re.compile(r"(?<=^```\n)(.*?)(?=^```)", re.M | re.S)
@@ -75,12 +74,16 @@ class Answers:
         with open(f"{TOP}/{path}", "rb") as file:
             self.texts[answers] = "".join(f"{answer}\n" for answer in Script().run(file.read()))
 
-    def document(self, path):
-        """What stands beneath the lines that are typed."""
+    def documents(self, paths):
+        """What stands beneath the lines that are typed, in one folder."""
         with tempfile.TemporaryDirectory() as room:
             tour = Tour(room, plain_program.__file__)
-            self.texts[path] = BLOCK.sub(lambda block: self.block(path, tour, block[1]), read(path))
+            for path in paths:
+                self.document(path, tour)
             tour.end()
+
+    def document(self, path, tour):
+        self.texts[path] = BLOCK.sub(lambda block: self.block(path, tour, block[1]), read(path))
 
     def block(self, path, tour, block):
         made = []
@@ -115,8 +118,8 @@ def made():
         name = os.path.relpath(path, TOP)
         answers.script(name.replace(".answers", ".txt"), name)
     answers.script(FIRST, FIRST_ANSWERS)
-    for path in TYPED:
-        answers.document(path)
+    for paths in TOURS:
+        answers.documents(paths)
     for path in SHOWN:
         answers.fenced(path)
     return answers
