@@ -6,6 +6,7 @@ import subprocess
 
 import pytest
 
+from scripts import TOP
 from scripts.clients import subcommands
 from scripts.clients.waiting import PATIENCE
 
@@ -49,6 +50,21 @@ def test_each_subcommand_has_its_own_help(program, names):
 def test_man(listed, text_of):
     assert re.findall(r'^\.BI ([a-z]+) " ([A-Z ]+)"$', text_of("man/event_reporter.1"), re.M) == listed
     assert text_of("man/event_reporter.1").split("\n")[0] == '.TH EVENT_REPORTER 1 "" "event_reporter" "User Commands"', "neither date nor version until it is installed"
+
+
+def test_man_refusals(text_of):
+    """The thirty of RULES, by their numbers and names."""
+    with open(f"{TOP}/docs/RULES.md", encoding="utf-8") as rules:
+        due = re.findall(r"^\| (\d+) \| ([A-Z]\w+)", rules.read().split("\n## Refusals\n")[1].split("\n## ")[0], re.M)
+    assert re.findall(r"^\.B (\d+) (\w+)$", text_of("man/event_reporter.1"), re.M) == due and len(due) == 30
+
+
+def test_man_sees_the_others(text_of):
+    """The companions, which are named before anything else is said, and again at the end."""
+    page, companions = text_of("man/event_reporter.1"), ["event-desk", "event-sheets", "event-phones", "event-check"]
+    named = re.findall(r"^\.B (event\\-\w+)$", page[page.index(".SH DESCRIPTION") : page.index(".PP")], re.M)
+    assert [it.replace("\\", "") for it in named] == companions
+    assert re.findall(r"^\.BR (event-\w+) ", page[page.index(".SH SEE ALSO") :], re.M) == companions
 
 
 def test_zsh(listed, kinds, text_of):

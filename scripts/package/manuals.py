@@ -14,6 +14,30 @@ from scripts import TOP
 sys.path.insert(0, f"{TOP}/extras")
 # the module of each companion that reads its command line
 COMPANIONS = ("companions.prompt.main", "companions.sheets.main", "companions.phones.main", "scripts.models.event_check")
+DESK, SHEETS, PHONES, CHECK = "event-desk", "event-sheets", "event-phones", "event-check"
+# what lies beside FILE, as docs/FORMATS.md says more of it, and who makes or reads it
+FILES = (
+    (".keys", "the key of each round", DESK, CHECK),
+    (".draws", "a folder: numbers and texts of rounds that dice drew", DESK, SHEETS, PHONES, CHECK),
+    (".copies", "a folder: the copies that are made before what can't be taken back", DESK),
+    (".copies-to", "the folder to which each copy goes too", DESK),
+    (".away-*", "an event that `back` put away", DESK),
+    (".back", "what `back` is just putting in place", DESK),
+    (".title", "the heading of sheets, board and phones", DESK, SHEETS, PHONES),
+    (".names", "names that are shown in place of the enrolled ones", DESK, SHEETS, PHONES),
+    (".doubts", "scores that are marked as doubtful", DESK, SHEETS, PHONES),
+    (".notes", "notes for tables", DESK, SHEETS, PHONES),
+    (".clock", "the clock, while one runs", DESK, SHEETS, PHONES),
+    (".look", "how sheets and board look; made by hand", SHEETS, PHONES),
+    (".sheets.html", "the page that was written last", DESK, SHEETS),
+    (".board.html", "the board, without --watch", SHEETS),
+    (".phones", "the address and the key of the codes", SHEETS, PHONES),
+    (".reports", "what phones handed in, with their addresses: delete it after the event", DESK, PHONES),
+    (".entries", "names that players entered by phone, with their addresses: delete it too", DESK, PHONES),
+    (".troubles", "what goes wrong with the phones now", DESK, PHONES),
+    (".turn", "empty; the lock by which they take turns", DESK, SHEETS, PHONES),
+    (".keys.old-*", "keys of an earlier event of this name; so with the other files", DESK),
+)
 
 
 def escaped(text):
@@ -44,8 +68,13 @@ def sections(text):
         head, _, rest = block.partition("\n")
         if re.fullmatch(r"[a-z ]+:", head):
             yield f".SH {head[:-1].upper()}\n.nf\n{escaped(rest)}\n.fi"
-        else:
+        elif not block.startswith("Beside FILE it keeps"):
             yield f".PP\n{escaped(block)}"
+
+
+def files_of(command):
+    """What lies beside FILE and is the command's to make or to read."""
+    return "\n".join(f".TP\n.I FILE{escaped(ending)}\n{escaped(text[0].upper() + text[1:])}." for ending, text, *whose in FILES if command in whose)
 
 
 def page(module, others):
@@ -59,6 +88,7 @@ def page(module, others):
         f".SH DESCRIPTION\n{escaped(parser.description.strip())}",
         ".SH OPTIONS\n" + "\n".join(described(actions)),
         *sections(parser.epilog),
+        f".SH FILES\nBeside\n.I FILE\nlie these.\n{files_of(module.COMMAND)}",
         f".SH SEE ALSO\n{see}",
     )) + "\n"
 

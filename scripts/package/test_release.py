@@ -158,6 +158,15 @@ def test_pages_as_help_says():
     assert sorted(os.path.basename(path)[:-2] for path in manuals.pages()) == COMPANIONS, "a page for each companion"
 
 
+def test_files_beside_an_event():
+    """The pages name what FORMATS says of what the companions keep."""
+    with open(f"{TOP}/docs/FORMATS.md", encoding="utf-8") as file:
+        section = re.search(r"^## 7\. .*?(?=^###? )", file.read(), re.M | re.S)[0]
+    rows = [it.partition(", and ")[0] for it in re.findall(r"^\| (`FILE.*?) \|", section, re.M)]
+    due = {re.sub("(-NNNN)?-DATE-TIME$", "-*", it) for row in rows for it in re.findall(r"`FILE(\.[^`]*)`", row)}
+    assert {it[0] for it in manuals.FILES} == due
+
+
 def options_of(help_text):
     return sorted(set(re.findall(r"^  (?:-[a-z](?: [A-Z]+)?, )?(--[a-z][a-z-]*)", help_text, re.M)))
 
