@@ -18,15 +18,16 @@ RECOMMENDS = (
 )
 SUGGESTS = "www-browser, bash-completion, man-db"
 DESCRIPTION = """\
-pairings, standings and playoff of a Magic Swiss tournament
+pairings, standings and playoff of a Swiss tournament of Magic
  The scorekeeper's program for organisers, judges and players. It enrols the
  players, pairs each round, takes results and corrections, ranks everybody with
  tiebreakers, and runs a playoff to its champion. It needs no network. One event
  is one file, and what was answered `ok' is in it after a crash.
  .
  event-desk is a prompt for the scorekeeper. event-sheets makes pages to print
- and a board for the screen. event-check is a second reading of the rules, by
- which anybody can check an event.
+ and a board for the screen. event-phones takes scores from the players' phones.
+ event-check is a second reading of the rules, by which anybody can check an
+ event.
  .
  Each function of the program is proved to meet its contract. The file PROVED
  says which commit this is, and what was proved. The processor must have SSE4.2

@@ -138,6 +138,21 @@ def test_sheets(at_the_prompt, root, room):
     assert (ran.returncode, ran.stderr, "Friday Night" in ran.stdout) == (0, "", True)
 
 
+def test_desktop_entry(root, room):
+    """It asks for an event's name, and starts the prompt on that file in the user's folder."""
+    with open(f"{root}/usr/share/applications/event_reporter.desktop", encoding="utf-8") as file:
+        entry = dict(line.split("=", 1) for line in file.read().splitlines()[1:])
+    assert entry["Terminal"] == "true"
+    # a string's backslashes come first, then those within quotes, and then the percent
+    shell, option, line = entry["Exec"].replace("\\\\", "\\").split(" ", 2)
+    line = re.sub(r'\\(["`$\\])', r"\1", line.strip('"')).replace("%%", "%")
+    env = {"PATH": f"{root}/usr/bin:{os.path.dirname(sys.executable)}:/usr/bin:/bin", "HOME": room}
+    for name in ("friday", "friday.event"):
+        ran = run(shell, option, line, env=env, input=f"{name}\ninit Friday Night 3 0\n")
+        assert ran.stdout.startswith(f"{'friday.event' + chr(10) if name == 'friday.event' else ''}An event of these"), "the events that are there"
+        assert "Friday Night (friday.event)" in ran.stdout, "the prompt"
+
+
 @pytest.mark.parametrize("name", COMMANDS)
 def test_page(root, name):
     page = f"{root}/usr/share/man/man1/{name}.1.gz"
