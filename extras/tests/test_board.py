@@ -36,12 +36,14 @@ def test_all_rows_have_room():
     for count in (8, 37, 64):
         layout = layout_of(by_name([f"Ana Lima {at}" for at in range(count)]))
         assert layout.rows == (-(-count // layout.columns),) * layout.columns
-        assert layout.rows[0] * layout.size * (LINE + AROUND) <= HEIGHT and layout.columns * layout.size < WIDTH
+        assert (layout.rows[0] * (LINE + AROUND) + LINE) * layout.size <= HEIGHT
+        assert layout.columns * layout.size < WIDTH
 
 
 def test_a_list_that_is_too_long_takes_several_looks():
     layout = layout_of(by_name([f"Ana Lima {at}" for at in range(512)]))
-    rows = int(HEIGHT / layout.size / (LINE + AROUND))
+    # a line has the headings
+    rows = int((HEIGHT / layout.size - LINE) / (LINE + AROUND))
     assert not layout.is_whole and layout.rows == (rows,) * (512 // rows) + (512 % rows,) * (512 % rows > 0)
 
 

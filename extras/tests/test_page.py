@@ -203,6 +203,31 @@ def test_the_foot_of_a_board(dice):
     assert Page(page_of(before, "Friday", 0, parts_of_board(before), Board(foot=Foot()))).root.of("footer") == []
 
 
+def test_a_board_says_beneath_its_parts_how_the_round_was_drawn(dice, tmp_path):
+    """Once, and not above the names, where nobody looks for it. On paper it stands above each list."""
+    event = evening(dice, 9, STARTED, 3, 0)
+    event.pair(1, bytes(32))
+    chosen, read = "Key chosen by the scorekeeper", Event(FromModel(event), f"{tmp_path}/e.event")
+    text = page_of(read, "Friday", 1, ("names", "tables"), board_of(read, 1, None, None, ENGLISH))
+    (foot,) = Page(text).root.of("footer")
+    assert foot.one("p", "drawn") == chosen and text.count(chosen) == 1
+    assert page_of(read, "Friday", 1, ("names", "tables")).count(chosen) == 2
+    # an older round has nothing else there
+    older = replace(board_of(read, 1, None, None, ENGLISH), foot=Foot(drawn=chosen))
+    assert Page(page_of(read, "Friday", 1, ("names",), older)).root.of("footer")[0].text().split() == chosen.split()
+
+
+def test_each_column_of_a_board_has_the_headings(dice):
+    event = evening(dice, 37, STARTED, 3, 0)
+    event.pair(1, bytes(32))
+    read = Event(FromModel(event))
+    for board, least in ((Board(), 2), (None, 1)):
+        text = page_of(read, "Friday", 1, ("names",), board)
+        heads = [[it.text() for it in row.of("th") if it.text()] for row in Page(text).root.of("tr", "heads")]
+        assert heads == [["Player", "No", "Table", "Opponent"]] * len(heads) and len(heads) >= least
+        assert board is None or f"--columns:{len(heads)}" in text
+
+
 def test_lists_by_name_say_where_phones_are_served(dice):
     event = evening(dice, 9, STARTED, 3, 0)
     event.pair(1, bytes(32))

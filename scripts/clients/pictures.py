@@ -28,6 +28,7 @@ from companions.phones.pages import style  # noqa: E402
 from companions.phones.site import Site  # noqa: E402
 from companions.plan import Plan  # noqa: E402
 from companions.reports import Reports  # noqa: E402
+from companions.shown_names import ShownName, ShownNames  # noqa: E402
 from companions.sheets.making import Wanted, page_maker  # noqa: E402
 from companions.title import keep_title  # noqa: E402
 from from_model import FromModel  # noqa: E402
@@ -91,6 +92,9 @@ class Room:
         """What lies beside it is written anew."""
         with open(f"{self.file}.look", "w", encoding="utf-8") as written:
             written.write(look)
+        # as `import` keeps them of a list that has first and last names apart
+        lasts = {name: next((last for last in LAST if name.endswith(f" {last}")), "") for name in played.names}
+        ShownNames(self.file).write([ShownName(number, name, name, lasts[name]) for number, name in enumerate(played.names, 1)])
         keep_clock(self.file, Clock(int(time.time()) + left, 50))
         event = Event(FromModel(played), self.file)
         event.plan = Plan(TITLE, played.rounds, played.cut)

@@ -15,7 +15,7 @@ from scripts.clients import pictures
 from scripts.clients.random_evenings import COMPLETE, ENDED, HOSTILE, IN_PLAYOFF, OPEN, STARTED, evening, laid
 from scripts.clients.sheets import BROWSERS
 from scripts.clients.waiting import PATIENCE
-from scripts.models.plain_page import bracket_due, final_due, name_rows, parts_due, standings_due, table_rows
+from scripts.models.plain_page import bracket_due, final_due, folded, name_rows, parts_due, standings_due, table_rows
 
 pytestmark = pytest.mark.needs("sheets and boards", module="jinja2", package="python3-jinja2")
 
@@ -337,6 +337,88 @@ def test_pictures_are_drawn(room, browser):
     with open(f"{room}/{name}.png", "rb") as it:
         head = it.read(24)
     assert (head[1:4], struct.unpack(">II", head[16:24])) == (b"PNG", screen)
+
+
+# of each look the columns that are seen: the headings from the left to the right, those that don't stand above their cells, and of each row its letter and
+# what leads
+COLUMNS = """
+<script>
+let at = 0;
+Date.now = () => at * 1000;
+const seen = it => {
+  const box = it.getBoundingClientRect();
+  return box.width && box.left >= 0 && box.right <= innerWidth && getComputedStyle(it).visibility === "visible";
+};
+const left = it => it.getBoundingClientRect().left;
+const edge = it => it.getBoundingClientRect()[getComputedStyle(it).textAlign === "right" ? "right" : "left"];
+const cellOf = (row, head) => {
+  const kind = head.className, place = [...head.parentNode.children].filter(it => it.className === kind).indexOf(head);
+  return [...row.children].filter(it => it.classList[0] === kind)[place];
+};
+const column = (head, rows) => {
+  const under = rows.filter(it => Math.abs(left(it) - left(head)) < 2), cells = [...head.children].filter(seen).filter(it => it.textContent);
+  return {
+    heads: cells.sort((one, other) => left(one) - left(other)).map(it => it.textContent),
+    beside: cells.filter(it => under.length && Math.abs(edge(it) - edge(cellOf(under[0], it))) > 2).map(it => it.textContent),
+    rows: under.map(it => [it.querySelector(".letter")?.textContent, it.querySelector(".leads")?.textContent]),
+  };
+};
+window.onload = () => {
+  const found = SECONDS.map(second => {
+    at = second;
+    dispatchEvent(new Event("resize"));
+    const rows = [...document.querySelectorAll(".now tbody tr:not(.heads)")].filter(seen);
+    return [[...document.querySelectorAll(".now .heads")].filter(seen).map(it => column(it, rows)), rows.length];
+  });
+  const pre = document.createElement("pre");
+  pre.id = "found";
+  pre.textContent = JSON.stringify(found);
+  document.body.append(pre);
+};
+</script>
+"""
+HEADS = {
+    "names": ["Table", "Player", "Opponent"],
+    "tables": ["Table", "No", "Named first", "No", "Second", "Score"],
+    "seats": ["Table", "Name", "No"],
+    "standings": ["Rank", "No", "Name", "W-L-D", "Pts"],
+    "final": ["Rank", "No", "Name", "W-L-D", "Pts"],
+}
+
+
+def looks_in(browser, room, part, players, screen=(1920, 1080)):
+    """The columns of each of two looks of a part, and how many rows each look has."""
+    drawing = pictures.Room(browser, room, room)
+    page = drawing.page(pictures.evening(players, is_ended=part == "final"), [part])
+    # a time at which a part of two looks begins, and ten seconds later
+    return found_in(browser, room, page, COLUMNS.replace("SECONDS", "[0, 10]"), screen)
+
+
+@pytest.mark.needs("the board on a screen", command=BROWSERS)
+@pytest.mark.parametrize("players", [37, 128])
+@pytest.mark.parametrize("part", HEADS)
+def test_each_column_has_its_headings(room, browser, part, players):
+    """Above their cells, and none where a look has no column."""
+    for columns, count in looks_in(browser, room, part, players):
+        assert columns and [it["heads"][: len(HEADS[part])] for it in columns] == [HEADS[part]] * len(columns), "the headings"
+        assert [it["beside"] for it in columns] == [[]] * len(columns), "above their cells"
+        rows = [len(it["rows"]) for it in columns]
+        assert (sum(rows), min(rows) > 0) == (count, True), "each row beneath headings, and each of them with rows"
+
+
+@pytest.mark.needs("the board on a screen", command=BROWSERS)
+@pytest.mark.parametrize("players", [37, 64, 128])
+def test_a_column_that_goes_on_with_a_letter_begins_with_it(room, browser, players):
+    goes_on = 0
+    for columns, _ in looks_in(browser, room, "names", players):
+        before = ""
+        for column in columns:
+            letters = [folded(leads)[:1].upper() for _, leads in column["rows"]]
+            due = [letter if at == 0 or letter != letters[at - 1] else "" for at, letter in enumerate(letters)]
+            assert [letter for letter, _ in column["rows"]] == due
+            goes_on += letters[0] == before
+            before = letters[-1]
+    assert goes_on or players == 37, "some column goes on with a letter"
 
 
 # ---- the clock, and the parts in turn

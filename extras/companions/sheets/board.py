@@ -18,8 +18,6 @@ WIDTH, HEIGHT = 96.0, 39.5
 FILLED = 0.95
 # in heights of a letter: between two columns, of a line, around a row
 GAP, LINE, AROUND = 2.2, 1.25, 0.35
-# and of the line that says how the round was drawn
-DRAWN = 1.3
 SIZES = (2.4, 2.2, 2.05, 1.9, 1.75, 1.6, 1.45, 1.3, 1.2, 1.1, 1.0, 0.9, 0.8)
 # of a list that takes several looks all the same, the largest one
 SIZE_OF_SEVERAL = 0.9
@@ -96,10 +94,10 @@ def room_for(part: Part, layout: Layout) -> float:
     return ((width - (layout.columns - 1) * GAP) / layout.columns - others) / side_by_side * FILLED
 
 
-def height_for(part: Part, layout: Layout) -> float:
+def height_for(layout: Layout) -> float:
     """For the rows of a column."""
-    above = (DRAWN if part.drawn else 0.0) + (LINE if part.standings else 0.0)
-    return HEIGHT / layout.size - above
+    # a line above it has the headings
+    return HEIGHT / layout.size - LINE
 
 
 def heights_in(rows: list[Names], part: Part, layout: Layout, may_break: bool) -> Optional[list[float]]:
@@ -108,7 +106,7 @@ def heights_in(rows: list[Names], part: Part, layout: Layout, may_break: bool) -
 
 
 def fits(rows: list[Names], part: Part, layout: Layout, may_break: bool) -> bool:
-    if len(rows) * (LINE + AROUND) / layout.columns > height_for(part, layout):
+    if len(rows) * (LINE + AROUND) / layout.columns > height_for(layout):
         # also if each name takes one line, so that no name has to be looked at
         return False
     heights = heights_in(rows, part, layout, may_break)
@@ -116,7 +114,7 @@ def fits(rows: list[Names], part: Part, layout: Layout, may_break: bool) -> bool
         return False
     # columns are of rows that stay whole, so one may be a row longer than the others
     tallest = sum(heights) / layout.columns + (max(heights) if layout.columns > 1 else 0.0)
-    return tallest <= height_for(part, layout)
+    return tallest <= height_for(layout)
 
 
 def layout_of(part: Part) -> Optional[Layout]:
@@ -138,7 +136,7 @@ def layout_of_several(rows: list[Names], part: Part) -> Layout:
     found = [(layout, heights_in(rows, part, layout, layout.columns == 1)) for layout in layouts]
     whole = [(layout, heights) for layout, heights in found if heights]
     layout, heights = max(whole, key=lambda it: it[0].columns / sum(it[1]), default=(layouts[0], [LINE + AROUND]))
-    return replace(layout, rows=filled(heights, height_for(part, layout)), is_whole=False)
+    return replace(layout, rows=filled(heights, height_for(layout)), is_whole=False)
 
 
 def filled(heights: list[float], room: float) -> tuple[int, ...]:

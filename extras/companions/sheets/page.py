@@ -27,6 +27,7 @@ from companions.sheets.parts import (
     Part,
     Reach,
     SlipsFor,
+    how_drawn,
     is_close,
     letters_of_slip,
     part_of,
@@ -116,13 +117,14 @@ class Playing:
 
 @dataclass(frozen=True)
 class Foot:
-    """What stands beneath each part of a board: where phones are served, how far the round is, and what comes
-    next.
+    """What stands beneath each part of a board: where phones are served, how far the round is, what comes
+    next, and how the round was drawn.
     """
 
     reach: Optional[Reach] = None
     playing: Optional[Playing] = None
     comes_next: str = ""
+    drawn: str = ""
 
 
 @dataclass(frozen=True)
@@ -144,9 +146,11 @@ class Board:
         return playing is not None and playing.finished == 0 and bool(playing.still)
 
 
-def foot_of(event: Event, secret: Optional[Secret], say: Say) -> Foot:
-    # in the playoff nobody looks for a table on a phone
-    return Foot() if event.stages else Foot(reach_of(secret), playing_in(event), next_of(event, say))
+def foot_of(event: Event, number: int, secret: Optional[Secret], say: Say) -> Foot:
+    if event.stages:
+        # in the playoff nobody looks for a table on a phone
+        return Foot()
+    return Foot(reach_of(secret), playing_in(event), next_of(event, say), how_drawn(event, number, say))
 
 
 def playing_in(event: Event) -> Optional[Playing]:
@@ -184,7 +188,8 @@ def board_of(
     is_sent: bool = False,
 ) -> Board:
     """What is beside the parts of the event and of the round of this number."""
-    return Board(clock, where_in(event, number, say), foot_of(event, secret, say), notes_of(event), is_sent)
+    foot = foot_of(event, number, secret, say)
+    return Board(clock, where_in(event, number, say), foot, notes_of(event), is_sent)
 
 
 def where_in(event: Event, number: int, say: Say) -> str:

@@ -146,7 +146,7 @@ class Part:
     ranking: tuple[Ranked, ...] = ()
     drawing: Optional[Drawing] = None
     champion: Optional[Champion] = None
-    # how the round was drawn, beneath the heading
+    # how the round was drawn, beneath the heading on paper
     drawn: str = ""
     draw: Optional[DrawShown] = None
     # what stands beside names, by the players' numbers, once a round is complete
@@ -180,11 +180,17 @@ def name_rows(players: Iterable[Player], by_first: bool) -> list[NameRow]:
     ]
 
 
-def players_part(event: Event, by_first: bool, say: Say) -> Part:
+def how_drawn(event: Event, number: int, say: Say) -> str:
+    """How the key of the round came about; before the first one, how rounds are drawn."""
+    if number:
+        return drawn_line(event, number, say)
     rule = rule_of_event(event.file) if event.file else None
-    drawn = "" if not rule or rule.is_off else say("rounds_are_drawn", rule=rule.text)
+    return "" if not rule or rule.is_off else say("rounds_are_drawn", rule=rule.text)
+
+
+def players_part(event: Event, by_first: bool, say: Say) -> Part:
     rows = tuple(name_rows(event.players.values(), by_first))
-    return Part("players", say("players_count", count=len(rows)), names=rows, drawn=drawn)
+    return Part("players", say("players_count", count=len(rows)), names=rows, drawn=how_drawn(event, 0, say))
 
 
 def draw_part(event: Event, number: int, say: Say) -> Optional[Part]:
@@ -221,7 +227,7 @@ def table_row(event: Event, match: Match, say: Say) -> TableRow:
 def tables_part(event: Event, number: int, say: Say) -> Part:
     rows = tuple(table_row(event, match, say) for match in event.shown_rounds[number - 1])
     records = records_before(event, number)
-    drawn = drawn_line(event, number, say)
+    drawn = how_drawn(event, number, say)
     what, label = say("by_table", number=number), say("pairings_by_table")
     return Part("tables", what, label, tables=rows, drawn=drawn, records=records)
 
@@ -236,7 +242,7 @@ def names_part(event: Event, number: int, by_first: bool, reach: Optional[Reach]
     who_sits = (player for player in event.players.values() if player.number in matches)
     rows = [seated(event, row, matches[row.player.number], say) for row in name_rows(who_sits, by_first)]
     records = records_before(event, number)
-    drawn = drawn_line(event, number, say)
+    drawn = how_drawn(event, number, say)
     what = say("by_name", number=number)
     label = say("pairings_by_first_name" if by_first else "pairings_by_last_name")
     return Part("names", what, label, names=tuple(rows), drawn=drawn, records=records, reach=reach)

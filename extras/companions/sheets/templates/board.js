@@ -60,8 +60,25 @@
     if (isTooMuch()) set(at / STEP);
   };
 
+  // where a column begins, the letter stands again under which its names go on
+  const columns = new Map();
+  const headColumns = part => {
+    let count = 0, left = NaN, letter = "";
+    for (const row of part.querySelectorAll(".looks > tr")) {
+      const at = Math.round(row.getBoundingClientRect().left), cell = row.querySelector(".letter");
+      const isHead = at !== left;
+      if (isHead) count++;
+      left = at;
+      if (!cell) continue;
+      cell.textContent = isHead || cell.dataset.letter !== letter ? cell.dataset.letter : "";
+      letter = cell.dataset.letter;
+    }
+    columns.set(part, count);
+  };
+
   const looksOf = part => {
     fit(part);
+    headColumns(part);
     const count = countOf(scrollerOf(part));
     return Array.from({ length: count }, (_, at) => ({ part, at, seconds: count > 1 ? ONE_OF_SEVERAL : LOOK }));
   };
@@ -80,6 +97,12 @@
     all = wide.matches ? parts.flatMap(looksOf) : [];
   };
 
+  // the last look of several may have fewer columns
+  const showHeads = shown => {
+    const heads = shown.part.querySelectorAll("thead > .heads"), begun = shown.at * heads.length;
+    heads.forEach((head, at) => (head.style.visibility = begun + at < columns.get(shown.part) ? "" : "hidden"));
+  };
+
   const showDots = (looks, shown) => {
     const dots = document.querySelector(".dots");
     if (dots) dots.textContent = looks.length > 1 ? looks.map(look => (look === shown ? "\u25cf" : "\u25cb")).join(" ") : "";
@@ -92,6 +115,7 @@
     for (const part of parts) part.classList.toggle("now", part === shown.part);
     const scroller = scrollerOf(shown.part);
     if (scroller) scroller.scrollLeft = shown.at * step(scroller);
+    showHeads(shown);
     showDots(looks, shown);
   };
 
