@@ -26,6 +26,7 @@ from companions.sheets.parts import (
 from from_model import FromModel
 from scripts.clients.random_evenings import COMPLETE, ENDED, ENROLLING, OPEN, STARTED, evening
 from scripts.models.plain_event import Event as Played
+from scripts.models.plain_event import winner
 from scripts.models.plain_page import Page
 
 
@@ -215,6 +216,15 @@ def test_a_board_says_beneath_its_parts_how_the_round_was_drawn(dice, tmp_path):
     # an older round has nothing else there
     older = replace(board_of(read, 1, None, None, ENGLISH), foot=Foot(drawn=chosen))
     assert Page(page_of(read, "Friday", 1, ("names",), older)).root.of("footer")[0].text().split() == chosen.split()
+
+
+def test_who_has_won_stands_out_by_table(dice):
+    event = evening(dice, 11, OPEN, 3, 0)
+    number = len(event.stored)
+    due = {event.names[winner(it) - 1] for it in event.stored[-1] if it[1] and it[2] and it[2][0] != it[2][1]}
+    for board in (Board(), None):
+        root = Page(page_of(Event(FromModel(event)), "Friday", number, ("tables",), board)).root
+        assert {it.of("bdi")[0].text() for it in root.of("td", "has-won")} == due
 
 
 def test_each_column_of_a_board_has_the_headings(dice):

@@ -38,6 +38,13 @@ class TableRow:
     second: Optional[Player]
     score: Optional[Score]
 
+    @property
+    def have_won(self) -> tuple[bool, bool]:
+        """Whether the first player has won the match, and whether the second one has."""
+        if not self.score or not self.second:
+            return False, False
+        return self.score.first > self.score.second, self.score.first < self.score.second
+
 
 @dataclass(frozen=True)
 class NameRow:
