@@ -110,6 +110,10 @@ class Listed:
     follows: str = ""
 
     @property
+    def text(self) -> str:
+        return f"{self.leads}, {self.follows}" if self.follows else self.leads
+
+    @property
     def key(self) -> SortKey:
         return plain_name(self.leads), plain_name(self.follows), self.leads, self.follows
 
@@ -119,13 +123,18 @@ class Listed:
         return plain_name(self.leads)[:1].upper()
 
 
+def told_apart(name: str) -> tuple[str, str]:
+    """The name, and what stands after it with a space and in parentheses."""
+    told = TOLD_APART.fullmatch(name)
+    return (told[1], f" {told[2]}") if told else (name, "")
+
+
 @lru_cache(maxsize=4096)
 def listed(name: str, last: str = "") -> Listed:
     """By the last name, if a list has told it; else the last word leads, if it has a letter. A name with one
     comma is listed so already.
     """
-    told = TOLD_APART.fullmatch(name)
-    whole, beside = (told[1], f" {told[2]}") if told else (name, "")
+    whole, beside = told_apart(name)
     if last and whole.endswith(f" {last}"):
         return Listed(last, whole[: -len(last)].rstrip() + beside)
     if last and whole.startswith(f"{last} "):
@@ -137,6 +146,19 @@ def listed(name: str, last: str = "") -> Listed:
     if words and any(map(str.isalpha, words[2])):
         return Listed(words[2], words[1] + beside)
     return Listed(name)
+
+
+def may_lead_earlier(name: str) -> bool:
+    """Whether the last name may begin before the word that leads: it has three words or more, and no comma."""
+    whole, _ = told_apart(name)
+    return len(whole.split()) > 2 and "," not in whole and listed(name) != Listed(name)
+
+
+def all_but_the_first(name: str) -> Listed:
+    """The name if its last name begins with the second word."""
+    whole, beside = told_apart(name)
+    first, _, last = whole.partition(" ")
+    return Listed(last, first + beside)
 
 
 def found_by(part: str, things: Iterable[Thing], name_of: Callable[[Thing], str]) -> list[Thing]:

@@ -12,7 +12,7 @@ import unicodedata
 from dataclasses import dataclass, field
 from typing import Iterator, List, Optional, Sequence
 
-from companions.names import compared, listed, visible
+from companions.names import compared, listed, may_lead_earlier, visible
 from companions.program import Declined
 
 ALONE = ("name", "player", "player name", "full name")
@@ -52,6 +52,8 @@ class Roster:
     left_out: list[str] = field(default_factory=list)
     # last names of several words, or that come first, if the list has them apart
     lasts: dict[str, str] = field(default_factory=dict)
+    # names of which it doesn't tell where the last name begins
+    unparted: set[str] = field(default_factory=set)
 
     @property
     def counts(self) -> str:
@@ -259,6 +261,8 @@ def roster_of(data: bytes, enrolled: set[str], codec: str = "") -> Roster:
         last = field_of(fields, columns[1]) if len(columns) > 1 else ""
         if listed(name, last) != listed(name):
             roster.lasts[name] = last
+        if len(columns) == 1 and may_lead_earlier(name):
+            roster.unparted.add(name)
         if any(map(tidy, fields)):
             sorting.add(place, name, field_of(fields, club))
     return roster

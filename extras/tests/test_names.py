@@ -1,6 +1,16 @@
 import pytest
 from companions.lists import Player
-from companions.names import Listed, compared, found_by, listed, plain, sort_key, visible
+from companions.names import (
+    Listed,
+    all_but_the_first,
+    compared,
+    found_by,
+    listed,
+    may_lead_earlier,
+    plain,
+    sort_key,
+    visible,
+)
 from companions.sheets.parts import name_rows
 from scripts.clients.random_evenings import FIRST_NAMES, HOSTILE
 from scripts.models.plain_page import folded, parted
@@ -158,6 +168,24 @@ def test_names_are_sorted_as_the_plain_reading_sorts_them():
 def test_what_leads_in_a_list_by_last_name(name, last, leads, follows):
     assert listed(name, last) == Listed(leads, follows)
     assert parted(name, last) == (leads, follows)
+
+
+@pytest.mark.parametrize("name, longer", [
+    ("Paul García Pérez", "García Pérez, Paul"),
+    ("Anna Maria Smith", "Maria Smith, Anna"),
+    ("Jo van der Berg (2)", "van der Berg, Jo (2)"),
+])
+def test_a_last_name_that_may_begin_before_the_word_that_leads(name, longer):
+    assert may_lead_earlier(name) and all_but_the_first(name).text == longer
+    # and so it is listed if it is typed so
+    assert listed(longer) == all_but_the_first(name)
+
+
+@pytest.mark.parametrize(
+    "name", ["Bo", "Ana Lima", "Jo Berg (Owls and more)", "García Pérez, Paul", "Player number 12"]
+)
+def test_a_last_name_that_is_no_guess(name):
+    assert not may_lead_earlier(name)
 
 
 def test_the_plain_reading_parts_names_as_the_companions_do():

@@ -132,4 +132,6 @@ def test_last_names_are_kept_if_the_last_word_is_not_all_of_them():
     rows = "First,Last", "Ana,Lima", "José María,García Pérez", "Pieter-Jan,van der Berg", "Zoë,"
     roster = roster_of("\n".join([*rows, ""]).encode(), set())
     assert roster.lasts == {"José María García Pérez": "García Pérez", "Pieter-Jan van der Berg": "van der Berg"}
-    assert roster_of(b"Name\nJo van der Berg\n", set()).lasts == {}
+    assert roster.unparted == set(), "all last names are told"
+    alone = roster_of(b"Name\nJo van der Berg\nAna Lima\n", set())
+    assert (alone.lasts, alone.unparted) == ({}, {"Jo van der Berg"})

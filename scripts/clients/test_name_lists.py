@@ -7,6 +7,7 @@ from scripts.clients.program import laid
 from scripts.clients.prompt import check_said
 from scripts.clients.random_evenings import HOSTILE
 from scripts.models.plain_file import read
+from scripts.models.plain_page import parted
 
 
 LISTS = [
@@ -105,6 +106,22 @@ def test_names(prompt, room):
     check_said("a name after the start", text, "Cy (3) is shown as Cyril", "   3   Cyril\n", " Cyril\n", "Cyril", "   3   Cyril", "Drop Cyril (3)?")
     assert read(file).names[2] == "Cy", "a name after the start, the file"
     check_said("the enrolled name again", prompt.said(file, "rename 3 Cy", "players"), "Cyril (3) is shown as Cy", "   3   Cy\n")
+
+
+def test_last_names_that_a_list_does_not_tell(prompt, room):
+    """Under which word lists have them is said, and what is typed where that is another one."""
+    file = f"{room}/e.event"
+    with open(f"{room}/list.csv", "w", encoding="utf-8") as it:
+        it.write("Name\nAna Lima\nPaul García Pérez\nAnna Maria Smith\n")
+    text = prompt.said(file, "init E 3 0", f"import {room}/list.csv", "y", "rename 2 García Pérez, Paul")
+    said = "Lists by name have:\n   2  Pérez, Paul García\n   3  Smith, Anna Maria\n"
+    check_said("under the last word", text, said, "so:\n  rename 2 García Pérez, Paul\n", "García Pérez, Paul now.")
+    assert max(map(len, text[text.index("This list") :].split("\n"))) <= 80
+    assert parted(read(file).names[1]) == ("García Pérez", "Paul"), "under the word that was typed"
+    with open(f"{room}/list.csv", "w", encoding="utf-8") as it:
+        it.write("Name\n" + "".join(f"Jo Lima Sato{at}\n" for at in "abcdefghij"))
+    text = prompt.said(file, f"import {room}/list.csv", "y")
+    check_said("many", text, "  11  Satoh, Jo Lima\n  and 2 more\n")
 
 
 def test_last_names_that_a_list_has_apart(prompt, room):

@@ -8,7 +8,7 @@ from typing import Optional
 
 from companions.event import Event, Phase, shown_player
 from companions.lists import Player
-from companions.names import compared, found_by, plain, visible
+from companions.names import all_but_the_first, compared, found_by, listed, plain, visible
 from companions.program import Declined
 from companions.prompt.lines import unbroken
 from companions.prompt.replays import play_again
@@ -20,6 +20,8 @@ from companions.stages import slot_shown
 from companions.wording import counted
 from companions.working import Working, part_shown, share_shown, working_of
 
+# so many names of which a list didn't tell the last one are shown
+MOST_GUESSES = 8
 # how like two words of a name are, if one may be a misspelt other
 LIKENESS = 0.7
 
@@ -38,8 +40,8 @@ class Players:
             return found[0]
         if not found:
             raise Declined(f"Nobody has {visible(rest)} in the name. See: players")
-        listed = [f"{player.number:4}  {visible(player.name)}" for player in found]
-        raise Declined("\n".join(["Who of these? Take the number, as: drop 23", *listed]))
+        shown = [f"{player.number:4}  {visible(player.name)}" for player in found]
+        raise Declined("\n".join(["Who of these? Take the number, as: drop 23", *shown]))
 
     def having(self, part: str) -> list[Player]:
         return found_by(part, self.session.event.players.values(), lambda player: player.name)
@@ -194,7 +196,7 @@ class Players:
             try:
                 session.send(Command(("import", written), lambda event: all(map(event.named, names))))
                 self.keep_last_names(roster)
-                session.say(*self.rounds_lost())
+                session.say(*self.rounds_lost(), *self.leading_words(roster.unparted.intersection(names)))
             except Declined as fault:
                 if not str(fault).startswith("bad csv"):
                     raise
@@ -206,6 +208,22 @@ class Players:
         told = [ShownName(player.number, player.name, player.name, last) for player, last in found if player]
         if told:
             self.session.names.keep(*told)
+
+    def leading_words(self, names: set[str]) -> list[str]:
+        """Names that lists may have under another letter than people look for."""
+        found = sorted((player.number, player.name) for name in names if (player := self.session.event.named(name)))
+        if not found:
+            return []
+        shown = [f"{number:4}  {visible(listed(name).text)}" for number, name in found[:MOST_GUESSES]]
+        more = [f"  and {len(found) - MOST_GUESSES} more"] if found[MOST_GUESSES:] else []
+        number, name = found[0]
+        return [
+            "This list doesn't tell where last names begin. Lists by name have:",
+            *shown,
+            *more,
+            "If a last name has more words, name the player so:",
+            f"  rename {number} {visible(all_but_the_first(name).text)}",
+        ]
 
     def names_to_enrol(self, roster: Roster) -> list[str]:
         """The names for which the answers are yes."""
