@@ -15,6 +15,7 @@ PAGE = f"{TOP}/docs/PROOF.md"
 CODE = re.compile(r"`([^`]+)`")
 CRATE = re.compile(r"\ber_\w+\b|\bevent_reporter\b")
 NAME = re.compile(r"[\w']+(?:(?:::|\.)[\w']+)*")
+BEGINS = re.compile(r"#|\||\s*(?:[-*]|\d+\.) ")
 COMMENT = re.compile(r"(?://|-- ).*")
 RUST = [
     re.compile(r"\b(?:fn|struct|enum|trait|type|const|mod|ghost|impl) +(\w+)"),
@@ -30,8 +31,13 @@ LOGIC = [
 ]
 # words that stand in backticks and are names of nothing
 WORDS = {"main", "ok", "requires", "refused", "usage", "output"}
-# pages, and how many of their names are missing: one that is there, one that is nowhere, and one of another crate
-CONTROLS = {"| er_desk | `HasMade` |": 0, "| er_desk | `no_such_name` |": 1, "### er_share\n\n| A share | `HasMade` |": 1}
+# pages, and how many of their names are missing: one that is there, one that is nowhere, one of another crate, and one whose crate stands a line above
+CONTROLS = {
+    "| er_desk | `HasMade` |": 0,
+    "| er_desk | `no_such_name` |": 1,
+    "### er_share\n\n| A share | `HasMade` |": 1,
+    "### er_share\n\nA history of er_desk\nhas `HasMade`.": 0,
+}
 
 
 def names_in(paths, kinds):
@@ -97,10 +103,21 @@ def is_there(name, crates, is_body):
     return {*path, last} <= kit_names() or name in words_of_the_program() or name in WORDS
 
 
+def whole_lines(text):
+    """The lines as they read before they were wrapped, each with its number: a paragraph, an item, a row or a heading."""
+    whole = []
+    for number, line in enumerate(text.split("\n"), 1):
+        if whole and line.strip() and whole[-1][1].strip() and not BEGINS.match(line) and whole[-1][1][0] not in "#|":
+            whole[-1][1] += f" {line.strip()}"
+        else:
+            whole.append([number, line])
+    return whole
+
+
 def missing_in(text):
     """Each name of the page that is not there, with the number of its line."""
     section, is_body = all_crates(), False
-    for number, line in enumerate(text.split("\n"), 1):
+    for number, line in whole_lines(text):
         if line.startswith("#"):
             section, is_body = CRATE.findall(line) or all_crates(), "rong bodies" in line or (is_body and line.startswith("###"))
         crates = CRATE.findall(line)
