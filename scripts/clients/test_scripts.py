@@ -117,6 +117,32 @@ def test_help(program):
     assert program.fed(b"init\tFriday\t3\t0\nimport\tnames.csv\nplayers\n") == (0, b"ok 0\nusage\n  No D Name\n", b""), "a script imports no list"
 
 
+def seen_of(room):
+    """The files of a folder, with their bytes and times."""
+    return {it.name: (bytes_of(it.path), it.stat().st_mtime_ns) for it in os.scandir(room)}
+
+
+TOUCH_NOTHING = ["enrol FILE", "enrol FILE --help", "start FILE now", "init FILE Friday 13 0", "init FILE Friday 3 5", "unknown FILE", "FILE enrol Ana"]
+
+
+@pytest.mark.parametrize("words", TOUCH_NOTHING)
+def test_words_that_touch_no_file(program, room, words):
+    """Words that are no command line, that ask for help, or that ask for an event beyond the limits. Words that are one show that it would be seen."""
+    file = f"{room}/e.event"
+
+    def run(words):
+        return program.run(*(file if word == "FILE" else word for word in words.split()))
+
+    run(words)
+    assert seen_of(room) == {}, "no file is made"
+    assert run("init FILE Friday 3 0") == (0, b"ok 0\n", b"")
+    before = seen_of(room)
+    run(words)
+    assert seen_of(room) == before, "the file stays as it was"
+    assert run("enrol FILE Ana") == (0, b"ok 1\n", b"")
+    assert seen_of(room) != before, "the control"
+
+
 @pytest.mark.parametrize("name", sorted(subcommands.read()))
 def test_help_of(program, name):
     """Of each subcommand."""
