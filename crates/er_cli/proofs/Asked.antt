@@ -4,7 +4,7 @@ use Rattle.std.proofs.Common.{Option, refl, sym, ap, subst, ◌∙◌, arith, ap
 use Rattle.sqlite_trees.specs.declared.store.Store.{Ghosts}
 use Rattle.sqlite.specs.{State.HasCleanDisk}
 use Rattle.er_event.specs.declared.{commands.Command.Command, refusals.Refusal.Refusal}
-use Rattle.er_store.specs.{Representing.AfterCrash}
+use Rattle.er_store.specs.{Migrated.NoneAwaitsPlayer2, Representing.AfterCrash}
 use Rattle.er_desk.specs.declared.desk.Desk.{Desk}
 use Rattle.er_desk.specs.Desk.{DeskState, HoldsOwnEvent, Point, placed_at, point_of, desk_state, state, version_in}
 use Rattle.er_desk.specs.{Asking.{Asks, SessionsJoin, join_sessions, later_in_doubt}, History.LeadsTo, Migrating.{MayMigrate, Migrates}}
@@ -53,7 +53,7 @@ pub record Went {S : Type 0} (g : Ghosts S) (Asked : Type 0) (old : Desk S g) (s
 module _ {S : Type 0} (g : Ghosts S) (Asked : Type 0) (old new : Desk S g) where
   still_may : version_in new ≡ version_in old → (state g new).now.schema ≡ (state g old).now.schema → MayMigrate g old → MayMigrate g new
   still_may same schema (inl second) = inl (same ∙ second)
-  still_may same schema (inr alone) = inr (schema ∙ alone)
+  still_may same schema (inr free) = inr (subst NoneAwaitsPlayer2 (sym schema) free)
 
   pub went_asking : (session : Session) → Asks g old session new → Went g Asked old session Stays new
   went_asking session it = record {

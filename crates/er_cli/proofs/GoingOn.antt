@@ -267,7 +267,7 @@ module _ {D : Type 0} (d : disk.Ghosts D) (image : Image) (first : Placed) (desk
 
       by : IsVersion shows.represents.layout.version → MayMigrate over_files desk
       by (inr two) = inl (sym shows.represents.is ∙ two)
-      by (inl one) = inr (may.alone now.schema (subst (IsSound now.schema) same shows.sound)
+      by (inl one) = inr (may.unawaited now.schema (subst (IsSound now.schema) same shows.sound)
           (subst (λ (t : Trees). RepresentsIn 1 (record { schema = now.schema; trees = t }) first.point.event first.point.serial) same
           (subst (λ (v : ℕ). RepresentsIn v now first.point.event first.point.serial) (sym shows.represents.is ∙ one) first_in)))
 

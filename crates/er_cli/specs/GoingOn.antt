@@ -10,7 +10,7 @@ use Rattle.sqlite.specs.Files.{HoldsDatabase}
 use Rattle.er_event.specs.declared.refusals.Refusal.{Refusal}
 use Rattle.er_event.specs.declared.refusals.Refusal.TheVariants.{BadSetup, EventExists}
 use Rattle.er_store.specs.Fault.{IsFault}
-use Rattle.er_store.specs.Layout.{StandsAlone}
+use Rattle.er_store.specs.Migrated.{NoneAwaitsPlayer2}
 use Rattle.er_store.specs.Representing.{RepresentsIn}
 use Rattle.er_desk.specs.Desk.{Point, Placed}
 use Rattle.er_desk.specs.Opening.{SparesAt}
@@ -33,12 +33,12 @@ LeadsToVersion Migrate (Accepted receipt) was now = now ≡ 2
 LeadsToVersion Migrate (Refused why) was now = (now ≡ was) ⊎ (now ≡ 2)
 LeadsToVersion question told was now = now ≡ was
 
--- the tables that the file held are of version 2, or stand alone in it
+-- the tables that the file held are of version 2, or no foreign key in it waits for a table `player2`
 pub record MayMoveTables (image : Image) (point : Point) : Type 0 where
   pub db : Trees
   pub holds : HoldsDatabase image db
-  pub alone : (schema : Schema) → IsSound schema db → RepresentsIn 1 (record { schema = schema; trees = db }) point.event point.serial
-      → StandsAlone schema
+  pub unawaited : (schema : Schema) → IsSound schema db → RepresentsIn 1 (record { schema = schema; trees = db }) point.event point.serial
+      → NoneAwaitsPlayer2 schema
 
 -- The file was opened, this was asked of its event, and it was closed, or could not be. A migration asks no command of it; this is said of
 -- one where the tables may be moved.

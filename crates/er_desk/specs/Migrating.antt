@@ -2,17 +2,18 @@
 use Rattle.std.specs.Prelude.{◌≡◌, ◌⊎◌, ℕ, [], true, IsTrue, IsFalse, IsErr, OnOk, OnErr, Result, Ok, Err}
 use Rattle.sqlite.specs.State.{HasCleanDisk}
 use Rattle.sqlite_trees.specs.declared.store.Store.{Ghosts}
+use Rattle.er_event.specs.declared.refusals.Place.TheVariants.{PlayerTable}
 use Rattle.er_event.specs.declared.refusals.Refusal.{Refusal}
 use Rattle.er_event.specs.declared.refusals.Refusal.TheVariants.{NeedsReopen}
-use Rattle.er_store.specs.{Fault.IsFault, Layout.StandsAlone, Migrated.IsTaken, Reading.KeepsTables, Representing.{Either, AfterCrash}}
-use Rattle.er_store.specs.{Tables.player_tree}
+use Rattle.er_store.specs.{Fault.IsFault, Layout.Layout, Migrated.{NoneAwaitsPlayer2, IsTaken, MigratesBeside}, Reading.KeepsTables}
+use Rattle.er_store.specs.Representing.{HasTablesAt, Either, AfterCrash}
 use Rattle.er_desk.specs.declared.desk.Desk.{Desk}
 use Rattle.er_desk.specs.Desk.{DeskState, HoldsOwnEvent, IsStoredAt, placed_at, placed_of, point_of, state, desk_state, version_in}
 use Rattle.er_desk.specs.Headline.{RecoversJust}
 
--- the tables are of version 2, or stand alone in the file
+-- the tables are of version 2, or no foreign key waits for a table `player2`
 abbrev pub MayMigrate : {S : Type 0} (g : Ghosts S) → Desk S g → Type 0
-MayMigrate g desk = (version_in desk ≡ 2) ⊎ StandsAlone (state g desk).now.schema
+MayMigrate g desk = (version_in desk ≡ 2) ⊎ NoneAwaitsPlayer2 (state g desk).now.schema
 
 -- the desk's state, the answer, and the desk's state then
 abbrev pub Migrates : DeskState → Result ℕ Refusal → DeskState → Type 0
@@ -39,7 +40,11 @@ pub record MovesDesk {S : Type 0} (g : Ghosts S) (old : Desk S g) (result : Resu
   pub acknowledged : MayMigrate g old → HoldsOwnEvent g old
       → OnOk result (RecoversJust (state g new) (placed_at (point_of (desk_state old)) 2))
   pub emptied : MayMigrate g old → HasCleanDisk (state g new) → HoldsOwnEvent g old → version_in old ≡ 1
-      → OnOk result ((state g new).now.trees player_tree ≡ [])
+      → OnOk result ((l : Layout) → l.version ≡ 1 → HasTablesAt l (state g new).now.schema
+      → (state g new).now.trees (l.tree PlayerTable) ≡ [])
+  -- whatever stood beside them stays
+  pub beside : MayMigrate g old → HasCleanDisk (state g new) → HoldsOwnEvent g old → version_in old ≡ 1
+      → OnOk result (MigratesBeside (state g old).now (state g new).now)
   -- at every exit it is the event and its serial, whole in the version that they were in or whole in version 2
   pub crash : MayMigrate g old → HoldsOwnEvent g old
       → AfterCrash (state g new) (Either (IsStoredAt (placed_of (desk_state old))) (IsStoredAt (placed_at (point_of (desk_state old)) 2)))

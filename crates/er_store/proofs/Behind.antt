@@ -10,11 +10,11 @@ use Rattle.std.specs.{List.position_from, Prelude.{find, is_some}}
 use Rattle.sqlite_catalog.proofs.LayoutLemmas.{zipped_left}
 use Rattle.sqlite_catalog.proofs.StepLemmas.{table_below}
 use Rattle.sqlite_catalog.specs.{Listing.IsTableRow, Change.{is_used, next_tree}}
-use Rattle.sqlite_rules.proofs.ListLemmas.{all_has, all_from, has_left}
+use Rattle.sqlite_rules.proofs.ListLemmas.{all_has, all_from, has_left, has_either}
 use Rattle.sqlite_rules.specs.Lists.{Has}
 use Rattle.sqlite_schema.specs.Names.{same_name}
 use Rattle.sqlite.specs.Effect.{IsDatabase}
-use Rattle.er_store.proofs.Made.{IsAnywhere, grown, grows_then, keeps_then, is_free, has_either}
+use Rattle.er_store.proofs.Made.{IsAnywhere, grown, grows_then, keeps_then, stands_then, is_free}
 use Rattle.er_store.proofs.Named.{IsRead}
 use Rattle.er_store.specs.Beside.{KeepsFirst, HasTable, names_taken}
 use Rattle.er_store.specs.inside.Making.{Grows, ContinuesTransaction, MakesTable, IsEmptyAfter, MakesFive, IsFound}
@@ -53,7 +53,7 @@ module _ {a b : Database} {table : ℕ → Table} (g : Grows table a b) where
   tree = next_tree a.schema
 
   lies : b.schema.tables ≡ a.schema.tables ++ table tree ∷ g.rest
-  lies = g.keeps.tables ∙ ap (λ ts. a.schema.tables ++ ts) g.behind
+  lies = g.keeps.first.tables ∙ ap (λ ts. a.schema.tables ++ ts) g.behind
 
   pub found_behind : is_used a.schema (table tree).name ≡ false → same_name (table tree).name (table tree).name ≡ true
       → IsFound b.schema (length a.schema.tables) (table tree)
@@ -83,7 +83,7 @@ module _ {a b : Database} {table : ℕ → Table} (g : Grows table a b) where
 
 pub has_then : {a b : Database} {table : Table} {rows : List Row} → KeepsFirst a b → HasTable a table rows → HasTable b table rows
 has_then {a} {b} {table} keeps has = record {
-  listed = subst (λ ts. Has ts table) (sym keeps.tables) (has_left a.schema.tables keeps.more table has.listed);
+  listed = subst (λ ts. Has ts table) (sym keeps.first.tables) (has_left a.schema.tables keeps.first.more table has.listed);
   holds = all_has (λ t. b.trees t.tree ≡ a.trees t.tree) a.schema.tables table keeps.rows has.listed ∙ has.holds;
 }
 
@@ -115,7 +115,7 @@ pub first_players : (version : ℕ) → version ≢ 2 → {old new : State} → 
 first_players version other {old} {new} =
     subst (λ b. MakesTable (λ tree. if b then player2 tree else player tree) old new) (sym (ne_eqb version 2 other))
 
-goes_then : {a b c : State} → ContinuesTransaction a b → ContinuesTransaction b c → ContinuesTransaction a c
+pub goes_then : {a b c : State} → ContinuesTransaction a b → ContinuesTransaction b c → ContinuesTransaction a c
 goes_then p q = record {
   was = p.was;
   shows = record {
@@ -131,16 +131,16 @@ goes_then p q = record {
 -- no name but those of the five, and that of SQLite's own table of counts
 just_five : (version : ℕ) {a b c d e f : State} (one : MakesTable event a b) (two : MakesTable (players_of version) b c)
     (three : MakesTable pairing c d) (four : MakesTable bracket d e) (five : MakesTable tally e f) (made : Table)
-    → Has (one.grows.keeps.more
-    ++ (((two.grows.keeps.more ++ three.grows.keeps.more) ++ four.grows.keeps.more) ++ five.grows.keeps.more)) made
+    → Has (one.grows.keeps.first.more
+    ++ (((two.grows.keeps.first.more ++ three.grows.keeps.first.more) ++ four.grows.keeps.first.more) ++ five.grows.keeps.first.more)) made
     → Has (names_taken version) made.name
-just_five version one two three four five made has = elim (has_either one.grows.keeps.more _ made has) [
+just_five version one two three four five made has = elim (has_either one.grows.keeps.first.more _ made has) [
   | inl it ↦ elim (one.just made it) [ inl is ↦ inl is | inr own ↦ inr (inr (inr (inr (inr own)))) ]
-  | inr later ↦ elim (has_either ((two.grows.keeps.more ++ three.grows.keeps.more) ++ four.grows.keeps.more) _ made later) [
+  | inr later ↦ elim (has_either ((two.grows.keeps.first.more ++ three.grows.keeps.first.more) ++ four.grows.keeps.first.more) _ made later) [
     | inr it ↦ elim (five.just made it) [ inl is ↦ inr (inr (inr (inr (inl is)))) | inr own ↦ inr (inr (inr (inr (inr own)))) ]
-    | inl before ↦ elim (has_either (two.grows.keeps.more ++ three.grows.keeps.more) _ made before) [
+    | inl before ↦ elim (has_either (two.grows.keeps.first.more ++ three.grows.keeps.first.more) _ made before) [
       | inr it ↦ elim (four.just made it) [ inl is ↦ inr (inr (inr (inl is))) | inr own ↦ inr (inr (inr (inr (inr own)))) ]
-      | inl first ↦ elim (has_either two.grows.keeps.more _ made first) [
+      | inl first ↦ elim (has_either two.grows.keeps.first.more _ made first) [
         | inr it ↦ elim (three.just made it) [ inl is ↦ inr (inr (inl is)) | inr own ↦ inr (inr (inr (inr (inr own)))) ]
         | inl it ↦ elim (two.just made it) [ inl is ↦ inr (inl is) | inr own ↦ inr (inr (inr (inr (inr own)))) ]
       ]
@@ -150,7 +150,7 @@ just_five version one two three four five made has = elim (has_either one.grows.
 
 pub five_made : (version : ℕ) {a b c d e f : State} → MakesTable event a b → MakesTable (players_of version) b c → MakesTable pairing c d
     → MakesTable bracket d e → MakesTable tally e f → MakesFive version a f
-unfolding grows_then keeps_then
+unfolding grows_then keeps_then stands_then
 five_made version {a} {b} {c} {d} {e} {f} one two three four five =
     let to_c = two.grows.keeps in
     let to_d = keeps_then to_c three.grows.keeps in

@@ -42,13 +42,15 @@ module _ {version : ℕ} {old mid : State} (made : MakesFive version old mid) wh
     all_kept =
         let k = made.event.keeps in
         record {
-          more = k.more;
-          tables = ap (λ (s : Schema). s.tables) put.goes.schema ∙ k.tables;
-          keys = k.keys;
-          indexes = ap (λ (s : Schema). s.indexes) put.goes.schema ∙ k.indexes;
-          views = ap (λ (s : Schema). s.views) put.goes.schema ∙ k.views;
+          first = record {
+            more = k.first.more;
+            tables = ap (λ (s : Schema). s.tables) put.goes.schema ∙ k.first.tables;
+            keys = k.first.keys;
+            indexes = ap (λ (s : Schema). s.indexes) put.goes.schema ∙ k.first.indexes;
+            views = ap (λ (s : Schema). s.views) put.goes.schema ∙ k.first.views;
+          };
           rows = all_from _ old.now.schema.tables (λ t h.
-              stays t (subst (λ ts. Has ts t) (sym k.tables) (has_left old.now.schema.tables k.more t h))
+              stays t (subst (λ ts. Has ts t) (sym k.first.tables) (has_left old.now.schema.tables k.first.more t h))
               (λ same. let low = table_below old.now.schema t h in omega (arith, same, low))
               ∙ all_has (λ t. mid.now.trees t.tree ≡ old.now.trees t.tree) old.now.schema.tables t k.rows h);
         }

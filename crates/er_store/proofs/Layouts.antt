@@ -149,24 +149,3 @@ same_trees l m {schema} is has more p =
 
 pub same_others : (l m : Layout) → ((p : Place) → l.tree p ≡ m.tree p) → (tree : ℕ) → IsOther m tree → IsOther l tree
 same_others l m same tree other p is = other p (is ∙ same p)
-
--- what is represented in the one is represented in the other
-pub represents_too : (l m : Layout) {db : Database} {e : EventValue} {s : ℕ} {kept : List TallyRow} → (is : l.version ≡ m.version)
-    → HasTablesAt m db.schema → RepresentsWith l db e s kept → RepresentsWith m db e s kept
-represents_too l m {db} {e} {s} {kept} is has it =
-    let same = same_trees l m is it.has.tables has in
-    record {
-      low = it.low;
-      keeps = rw is at it.keeps;
-      has = record {
-        tables = has;
-        rows = λ p. subst (λ (tree : ℕ). IsPermutation (map (shown_of m.version p) (db.trees tree)) (rows_with m.version e s kept p))
-            (same p)
-            (subst (λ (v : ℕ). IsPermutation (map (shown_of v p) (db.trees (l.tree p))) (rows_with v e s kept p)) is (it.has.rows p));
-        keyed = record {
-          pairings = rw (same PairingTable) at it.has.keyed.pairings;
-          bracket = rw
-              (same BracketTable) at it.has.keyed.bracket;
-        };
-      };
-    }

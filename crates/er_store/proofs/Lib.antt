@@ -23,6 +23,7 @@ mod Meetings
 mod Joining
 mod Selecting
 mod Crash
+mod Growing
 mod Creates
 mod Made
 mod Behind

@@ -1,5 +1,5 @@
 -- What a text that defines a table makes of any schema.
-use Rattle.er_store.proofs.Prelude.{◌≡◌, ◌⊎◌, inl, inr, ℕ, Bool, true, false, List, [], ◌∷◌, ◌++◌, length, not, ◌&&◌, ◌||◌, ◌==◌}
+use Rattle.er_store.proofs.Prelude.{◌≡◌, ◌⊎◌, inl, inr, ℕ, Bool, true, false, List, [], ◌∷◌, ◌++◌, length, not, ◌&&◌, ◌||◌, ◌==◌, arith}
 use Rattle.er_store.proofs.Prelude.{Option, Some, None, Ok, refl, sym, ap, subst, ◌∙◌, true≢false, AllByRecursion, Schema, Table}
 use Rattle.er_store.proofs.Prelude.{Database, State, Ran, IsPlain, command_of, runs_as, understood, everything, event, player, player2}
 use Rattle.er_store.proofs.Prelude.{pairing, bracket, tally}
@@ -15,13 +15,14 @@ use Rattle.sqlite_resolve.specs.Compile.{compiled}
 use Rattle.sqlite_resolve.specs.Compile.{timed, with_command, table_in, table_defined_by}
 use Rattle.sqlite_resolve.specs.Define as define
 use Rattle.sqlite_catalog.specs.{Calls.CreatesTable, Change.{is_used, next_tree}}
-use Rattle.sqlite_rules.proofs.ListLemmas.{all_has, has_right}
+use Rattle.sqlite_catalog.proofs.StepLemmas.{table_below}
+use Rattle.sqlite_rules.proofs.ListLemmas.{all_has, has_right, has_either}
 use Rattle.sqlite_rules.specs.Lists.{Has}
 use Rattle.sqlite_trees.proofs.ListLemmas.{all_both}
 use Rattle.sqlite.proofs.Callers.{statement_of}
 use Rattle.sqlite.specs.{Does.{sequence_text, lacks_sequence, Tally, MakesTable as Makes}, Rows.Gives}
 use Rattle.er_store.proofs.{Taken.{compiled_refused, never_ran}, Writing.{went, same_value}}
-use Rattle.er_store.specs.{Beside.KeepsFirst, inside.Making.{Grows, MakesTable}}
+use Rattle.er_store.specs.{Beside.{StandsFirst, KeepsFirst}, inside.Making.{Grows, MakesTable, IsBareAfter}}
 use Rattle.er_store.specs.Tables.{create_event, create_player, create_player2, create_pairing, create_bracket, create_tally}
 
 -- ---- a name that is free
@@ -98,30 +99,43 @@ pub all_front : {X : Type 0} (P : X → Type 0) (xs ys : List X) → AllByRecurs
 all_front P [] ys all = tt
 all_front P (x ∷ xs) ys all = (all.0, all_front P xs ys all.1)
 
+-- what stands first, one after another
+unfoldable pub stands_then : {a b c : Schema} → StandsFirst a b → StandsFirst b c → StandsFirst a c
+stands_then {a} {b} {c} p q = record {
+  more = p.more ++ q.more;
+  tables = q.tables ∙ ap (λ ts. ts ++ q.more) p.tables ∙ append_assoc a.tables p.more q.more;
+  keys = p.keys ++ q.keys;
+  indexes = q.indexes ∙ ap (λ is. is ++ q.keys) p.indexes ∙ append_assoc a.indexes p.keys q.keys;
+  views = q.views ∙ p.views;
+}
+
 -- what is kept by one after another
 unfoldable pub keeps_then : {a b c : Database} → KeepsFirst a b → KeepsFirst b c → KeepsFirst a c
+unfolding stands_then
 keeps_then {a} {b} {c} p q = record {
-  more = p.more ++ q.more;
-  tables = q.tables ∙ ap (λ ts. ts ++ q.more) p.tables ∙ append_assoc a.schema.tables p.more q.more;
-  keys = p.keys ++ q.keys;
-  indexes = q.indexes ∙ ap (λ is. is ++ q.keys) p.indexes ∙ append_assoc a.schema.indexes p.keys q.keys;
-  views = q.views ∙ p.views;
+  first = stands_then p.first q.first;
   rows = all_both (λ t. b.trees t.tree ≡ a.trees t.tree) (λ t. c.trees t.tree ≡ b.trees t.tree) (λ t. c.trees t.tree ≡ a.trees t.tree)
       (λ t one two. two ∙ one) a.schema.tables p.rows
-      (all_front _ a.schema.tables p.more (subst (AllByRecursion (λ t. c.trees t.tree ≡ b.trees t.tree)) p.tables q.rows));
+      (all_front _ a.schema.tables p.first.more (subst (AllByRecursion (λ t. c.trees t.tree ≡ b.trees t.tree)) p.first.tables q.rows));
 }
 
 one_more : {sql : List ℕ} {old new : Database} → CreatesTable old.schema sql old.trees new.schema new.trees → KeepsFirst old new
 one_more {old = old} c =
     let made : Table = record c.table { tree = next_tree old.schema } in
     record {
-      more = made ∷ [];
-      tables = ap (λ (s : Schema). s.tables) c.is;
-      keys = _;
-      indexes = ap (λ (s : Schema). s.indexes) c.is;
-      views = ap (λ (s : Schema). s.views) c.is;
+      first = record {
+        more = made ∷ [];
+        tables = ap (λ (s : Schema). s.tables) c.is;
+        keys = _;
+        indexes = ap (λ (s : Schema). s.indexes) c.is;
+        views = ap (λ (s : Schema). s.views) c.is;
+      };
       rows = c.others;
     }
+
+all_append : {X : Type 0} (P : X → Type 0) (xs ys : List X) → AllByRecursion P xs → AllByRecursion P ys → AllByRecursion P (xs ++ ys)
+all_append P [] ys one two = two
+all_append P (x ∷ xs) ys one two = (one.0, all_append P xs ys one.1 two)
 
 -- ---- what is made
 
@@ -133,12 +147,12 @@ IsAnywhere table = (tree : ℕ) → record (table 0) { tree = tree } ≡ table t
 pub grown : {table : ℕ → Table} {a b : Database} → Grows table a b → Has b.schema.tables (table (next_tree a.schema))
 grown {table} {a} g =
     let tree = next_tree a.schema in
-    subst (λ ts. Has ts (table tree)) (sym (g.keeps.tables ∙ ap (λ ts. a.schema.tables ++ ts) g.behind))
+    subst (λ ts. Has ts (table tree)) (sym (g.keeps.first.tables ∙ ap (λ ts. a.schema.tables ++ ts) g.behind))
     (has_right a.schema.tables (table tree ∷ g.rest) (table tree) (inl refl))
 
 -- and stays where more is made
 unfoldable pub grows_then : {table : ℕ → Table} {a b c : Database} → IsAnywhere table → Grows table a b → KeepsFirst b c → Grows table a c
-unfolding keeps_then
+unfolding keeps_then stands_then
 grows_then {table} {a} {b} {c} anywhere g q =
     let tree = next_tree a.schema in
     let own : (table tree).tree ≡ tree = ap (λ (t : Table). t.tree) (sym (anywhere tree)) in
@@ -146,8 +160,8 @@ grows_then {table} {a} {b} {c} anywhere g q =
     (all_has (λ t. c.trees t.tree ≡ b.trees t.tree) b.schema.tables (table tree) q.rows (grown g)) in
     record {
       keeps = keeps_then g.keeps q;
-      rest = g.rest ++ q.more;
-      behind = ap (λ ts. ts ++ q.more) g.behind;
+      rest = g.rest ++ q.first.more;
+      behind = ap (λ ts. ts ++ q.first.more) g.behind;
       empty = stays ∙ g.empty;
     }
 
@@ -167,11 +181,6 @@ first_grows {sql} {table} {old} {new} anywhere defined c =
 
 -- ---- and nothing else
 
-pub has_either : {X : Type 0} (xs ys : List X) (x : X) → Has (xs ++ ys) x → Has xs x ⊎ Has ys x
-has_either [] ys x has = inr has
-has_either (y ∷ xs) ys x (inl is) = inl (inl is)
-has_either (y ∷ xs) ys x (inr has) = elim (has_either xs ys x has) [ inl one ↦ inl (inr one) | inr other ↦ inr other ]
-
 -- a table of this name, or SQLite's own of counts
 abbrev IsNamed : List ℕ → Table → Type 0
 IsNamed name made = Has (name ∷ codes "sqlite_sequence" ∷ []) made.name
@@ -179,7 +188,8 @@ IsNamed name made = Has (name ∷ codes "sqlite_sequence" ∷ []) made.name
 -- the table comes, and no other but SQLite's own of counts
 record Adds (table : ℕ → Table) (old new : Database) : Type 0 where
   grows : Grows table old new
-  just : (made : Table) → Has grows.keeps.more made → IsNamed (table 0).name made
+  just : (made : Table) → Has grows.keeps.first.more made → IsNamed (table 0).name made
+  others : AllByRecursion (IsBareAfter (next_tree old.schema)) grows.rest
 
 name_in : Table → List ℕ
 name_in table = table.name
@@ -193,6 +203,7 @@ first_adds {sql} {table} {old} {new} anywhere defined c =
     record {
       grows = first_grows {sql = sql} {table = table} {old = old} {new = new} anywhere defined c;
       just = λ made has. elim has [ inl is ↦ inl (ap name_in is ∙ ap name_in same) | inr none ↦ absurd none ];
+      others = tt;
     }
 
 defined_from : (sql : List ℕ) (p : Parsed) (def : CreateTable) (table : Table) → first sql ≡ Ok p → p.statement ≡ written.CreateTable def
@@ -201,30 +212,37 @@ unfolding table_defined_by table_in
 defined_from sql p def table reads is formats defined = rw (reads, is, formats) defined
 
 sequence_defined : (table : Table) × (table_defined_by sequence_text ≡ Ok table) × (table.name ≡ codes "sqlite_sequence")
+    × (table.references ≡ [])
 unfolding everything digits
-sequence_defined = (_, defined_from sequence_text _ _ _ refl refl refl refl, refl)
+sequence_defined = (_, defined_from sequence_text _ _ _ refl refl refl refl, refl, refl)
 
-sequence_named : {old new : Database} → (c : CreatesTable old.schema sequence_text old.trees new.schema new.trees)
-    → c.table.name ≡ codes "sqlite_sequence"
+-- it has that name, and no foreign key
+sequence_is : {old new : Database} → (c : CreatesTable old.schema sequence_text old.trees new.schema new.trees)
+    → (c.table.name ≡ codes "sqlite_sequence") × (c.table.references ≡ [])
 unfolding name_in
-sequence_named c =
+sequence_is c =
     let both : Ok c.table ≡ Ok sequence_defined.0 = sym c.defined ∙ sequence_defined.1 in
     let same : c.table ≡ sequence_defined.0 = cc in
-    ap name_in same ∙ sequence_defined.2
+    (ap name_in same ∙ sequence_defined.2, ap (λ (t : Table). t.references) same ∙ sequence_defined.3)
 
 -- SQLite's own table of counts is made too, where some table needs it and it is not there
 sequenced : (b : Bool) {table : ℕ → Table} {old mid new : Database} → IsAnywhere table → Adds table old mid
     → MatchBool b (Makes sequence_text mid (Ok new)) (Gives mid (Ok new)) → Adds table old new
-unfolding grows_then keeps_then one_more name_in
+unfolding grows_then keeps_then stands_then one_more name_in
 sequenced true {table} {old} {mid} {new} anywhere a h =
-    let own = sequence_named {old = mid} {new = new} h in
+    let own = sequence_is {old = mid} {new = new} h in
+    let tree = next_tree old.schema in
+    let first : (table tree).tree ≡ tree = ap (λ (t : Table). t.tree) (sym (anywhere tree)) in
+    let later = table_below mid.schema (table tree) (grown a.grows) in
     record {
       grows = grows_then anywhere a.grows (one_more {sql = sequence_text} {old = mid} {new = new} h);
-      just = λ made has. elim (has_either a.grows.keeps.more _ made has) [
+      just = λ made has. elim (has_either a.grows.keeps.first.more _ made has) [
         | inl before ↦ a.just made before
-        | inr (inl is) ↦ inr (inl (ap name_in is ∙ own))
+        | inr (inl is) ↦ inr (inl (ap name_in is ∙ own.0))
         | inr (inr none) ↦ absurd none
       ];
+      others = all_append _ a.grows.rest _ a.others
+          (record { later = omega (arith, first, later); bare = own.1 }, tt);
     }
 sequenced false {table} {old} anywhere a h = subst (Adds table old) (sym (same_value h)) a
 
@@ -248,6 +266,7 @@ module _ {sql : List ℕ} {p : Parsed} {def : CreateTable} {table : ℕ → Tabl
         free = rw d.named free;
         grows = adds.grows;
         just = adds.just;
+        others = adds.others;
       }
 
   -- where such a text ran, its name was free, and it has made its table

@@ -1,207 +1,287 @@
 -- The steps of a migration.
-use Rattle.er_store.proofs.Prelude.{◌≡◌, ◌≢◌, ◌<◌, ◌≤◌, ℕ, ℤ, List, [], ◌∷◌, ◌++◌, map, true, refl, sym, ap, subst, ◌∙◌, pos}
-use Rattle.er_store.proofs.Prelude.{length}
-use Rattle.er_store.proofs.Prelude.{All, All-from_recursion, AllByRecursion, IsPermutation-refl, IsPermutation-sym, length-map, map-append}
-use Rattle.er_store.proofs.Prelude.{Row, Int, column, number_value, Table, Schema, Database, State, EventTable, PlayerTable, PairingTable}
+use Rattle.er_store.proofs.Prelude.{◌≡◌, ◌≢◌, ◌⊎◌, ◌<◌, ◌≤◌, ◌==◌, ℕ, ℤ, List, [], ◌∷◌, ◌++◌, map, false, refl, sym, ap, subst, ◌∙◌, pos}
+use Rattle.er_store.proofs.Prelude.{length, find, inl, inr, same_Some, arith, AllByRecursion, all_weaker}
+use Rattle.er_store.proofs.Prelude.{All, All-from_recursion, IsPermutation-refl, IsPermutation-sym, length-map, map-append}
+use Rattle.er_store.proofs.Prelude.{Row, Int, column, number_value, Table, Schema, Database}
+use Rattle.er_store.proofs.Prelude.{State, Place, EventTable, PlayerTable, PairingTable}
 use Rattle.er_store.proofs.Prelude.{BracketTable, TallyTable, Player, EventValue, event_row, player_row, player_columns, event_columns}
-use Rattle.er_store.proofs.Prelude.{player_shown, stored_event, stored_player2, player_tree, moved_tree, event_tree, player, Goes, Puts}
-use Rattle.er_store.proofs.Prelude.{Ran, HasTablesAt, RepresentsAt, inl, inr, everything, RepresentsIn, StandsAlone, old_schema}
+use Rattle.er_store.proofs.Prelude.{player_shown, stored_event, stored_player2, event, player, player2, pairing, bracket, tally, Goes, Puts}
+use Rattle.er_store.proofs.Prelude.{Ran, Layout, IsOther, HasTablesAt, HasRows, rows_with, tally_rows, RepresentsIn, everything}
 use Rattle.std.proofs.{lemmas.List.Sorted.All-permutation, Math.ListN.get_or-map}
-use Rattle.sqlite.specs.State as sqlite
-use Rattle.sqlite_schema.specs.declared.schema.Keys.{Keys}
-use Rattle.sqlite_rules.specs.Action.{works}
+use Rattle.sqlite_catalog.proofs.StepLemmas.{table_below}
+use Rattle.sqlite_catalog.specs.Change.{next_tree}
+use Rattle.sqlite_rules.proofs.ListLemmas.{all_has, all_from, has_left}
+use Rattle.sqlite_rules.specs.Lists.{Has}
+use Rattle.sqlite_schema.specs.Names.{same_name}
 use Rattle.er_store.specs.{Tables.{create_player2, clear_players, set_version}}
-use Rattle.er_store.specs.{inside.Moving.{IsMoving, IsMoved, MayMove, HasNumber, old_layout, moved_layout}}
-use Rattle.er_store.specs.Tables.{moved_schema}
-use Rattle.er_store.proofs.{Clearing.clears, Creates.{makes, player2_moved}, Writing.{cast_int, cast_null}, Meaning.version_terms}
-use Rattle.er_store.proofs.{Layouts.{has_again, represents_too}, Updates.{clear_means, version_means}}
-use Rattle.er_store.proofs.{Effects.event_replaced, Together.{rows_set, shows_more, first_has}}
+use Rattle.er_store.specs.{Migrated.NoneAwaitsPlayer2, Representing.LeadsElsewhere, inside.Making.MakesTable}
+use Rattle.er_store.specs.{inside.Moving.{Move, IsMoving, IsMoveBegun, IsMoved, MayMove, HasNumber, moved_layout, layout_after}}
+use Rattle.er_store.proofs.{Clearing.clears, Writing.{cast_int, cast_null, no_works_elsewhere}, Meaning.version_terms}
+use Rattle.er_store.proofs.Layouts.{apart, tree_is, of_ours, no_parent, player_there, player2_there, same_trees, same_others}
+use Rattle.er_store.proofs.{Behind.{found_behind, read_behind, goes_then}, Made.player2_beside, Updates.{clear_means, version_means}}
+use Rattle.er_store.proofs.Growing.{key_listed, all_lead, still_there, still_has}
+use Rattle.er_store.proofs.{Effects.event_replaced, Together.{kept, rows_set, shows_more}}
 
--- ---- the schema
+-- ---- `player2` behind what stands
 
--- the five of version 1 still stand, and those of version 2 are there
-old_stand : HasTablesAt old_layout moved_schema
-unfolding everything
-old_stand = record {
-  known = inl refl;
-  has = elim [
-    | EventTable ↦ (0, record { named = refl; is = refl; low = refl; found = refl })
-    | PlayerTable ↦ (1, record { named = refl; is = refl; low = refl; found = refl })
-    | PairingTable ↦ (2, record { named = refl; is = refl; low = refl; found = refl })
-    | BracketTable ↦ (3, record { named = refl; is = refl; low = refl; found = refl })
-    | TallyTable ↦ (4, record { named = refl; is = refl; low = refl; found = refl })
-  ];
-  apart = (tt, (tt, (tt, (tt, (tt, (tt, tt))))));
-}
+-- which of the rows behind are of version 2 only
+other_after : (l : Layout) (players tree : ℕ) → IsOther l tree → tree ≢ players → IsOther (moved_layout l players) tree
+other_after l players tree other apart = elim [
+  | EventTable ↦ other EventTable
+  | PlayerTable ↦ apart
+  | PairingTable ↦ other PairingTable
+  | BracketTable ↦ other BracketTable
+  | TallyTable ↦ other TallyTable
+]
 
-new_stand : HasTablesAt moved_layout moved_schema
-unfolding everything
-new_stand = record {
-  known = inr refl;
-  has = elim [
-    | EventTable ↦ (0, record { named = refl; is = refl; low = refl; found = refl })
-    | PlayerTable ↦ (5, record { named = refl; is = refl; low = refl; found = refl })
-    | PairingTable ↦ (2, record { named = refl; is = refl; low = refl; found = refl })
-    | BracketTable ↦ (3, record { named = refl; is = refl; low = refl; found = refl })
-    | TallyTable ↦ (4, record { named = refl; is = refl; low = refl; found = refl })
-  ];
-  apart = (tt, (tt, (tt, (tt, (tt, (tt, tt))))));
-}
+module _ {old new : State} (made : MakesTable player2 old new) where
+  abbrev next : ℕ
+  next = next_tree old.now.schema
 
-has_moved : {schema : Schema} → schema.tables ≡ moved_schema.tables → HasTablesAt moved_layout schema
-has_moved {schema} are = has_again moved_layout moved_schema schema (sym are) new_stand
+  abbrev front : List Table
+  front = old.now.schema.tables
 
-has_old : {schema : Schema} → schema.tables ≡ moved_schema.tables → HasTablesAt old_layout schema
-has_old {schema} are = has_again old_layout moved_schema schema (sym are) old_stand
+  abbrev behind : List Table
+  behind = player2 next ∷ made.grows.rest
 
--- no table refers to another
-no_works : (schema : Schema) → schema.tables ≡ moved_schema.tables → (keys : Keys) (tree : ℕ) (olds news : List Row)
-    → works schema keys 0 tree olds news ≡ []
-no_works schema are keys tree olds news =
-    subst (λ s. works s keys 0 tree olds news ≡ []) (sym (ap (λ ts. (let s : Schema = record schema { tables = ts } in s)) are)) refl
+  lies : new.now.schema.tables ≡ front ++ behind
+  lies = made.grows.keeps.first.tables ∙ ap (λ ts. front ++ ts) made.grows.behind
 
--- ---- one step after another
+  bare : AllByRecursion (λ (t : Table). t.references ≡ []) behind
+  bare = (refl, all_weaker _ (λ (t : Table). t.references ≡ []) (λ t b. b.bare) made.grows.rest made.others)
 
--- a statement on another table leaves `player`
-former_kept : (tree : ℕ) (old new : State) → old.now.schema.tables ≡ moved_schema.tables → Goes tree old new → player_tree ≢ tree
-    → new.now.trees player_tree ≡ old.now.trees player_tree
-former_kept tree old new are goes =
-    (subst (AllByRecursion (λ (t : Table). t.tree ≢ tree → new.now.trees t.tree ≡ old.now.trees t.tree)) are goes.others).1.0
+  module _ (l : Layout) (has : HasTablesAt l old.now.schema) (unawaited : NoneAwaitsPlayer2 old.now.schema) where
+    abbrev after : Layout
+    after = moved_layout l next
 
-still_alone : {tree : ℕ} {old new : State} → old.now.schema.tables ≡ moved_schema.tables → Goes tree old new
-    → new.now.schema.tables ≡ moved_schema.tables
-still_alone are goes = ap (λ (it : Schema). it.tables) goes.schema ∙ are
+    below : (p : Place) → l.tree p < next
+    below p = subst (λ n. n < next) (tree_is l p) (of_ours l has (λ (t : Table). t.tree < next)
+        (all_from (λ (t : Table). t.tree < next) front (λ t h. table_below old.now.schema t h)) p)
 
-shows_then : {a b c : State} → sqlite.Shows a b b.now a.committed true → sqlite.Shows b c c.now b.committed true
-    → sqlite.Shows a c c.now a.committed true
-shows_then p q = record {
-  was_open = p.was_open;
-  is_open = q.is_open;
-  now_is = refl;
-  committed_is = q.committed_is ∙ p.committed_is;
-  mode = q.mode;
-}
+    -- what comes behind is named by no foreign key, or is none of the five
+    named_by_none : (Free : ℕ → Type 0) → ((tree : ℕ) → next < tree → Free tree) → AllByRecursion (λ (t : Table). AllByRecursion
+        (λ ref. AllByRecursion (λ (m : Table). (same_name m.name ref.parent ≡ false) ⊎ Free m.tree) behind) t.references) front
+    named_by_none Free later = all_weaker _ _ (λ t all. all_weaker _ _ (λ ref no. (
+      inl no,
+      all_weaker _ (λ (m : Table). (same_name m.name ref.parent ≡ false) ⊎ Free m.tree) (λ m b. inr (later m.tree b.later))
+          made.grows.rest made.others,
+    )) t.references all) front unawaited
 
-pub moving_then : {a b c : State} {v w : ℕ} {ps qs : List Player} {e : EventValue} {s : ℕ} {f g : List Row}
-    → IsMoving a b v ps e s f → IsMoving b c w qs e s g → IsMoving a c w qs e s g
-moving_then p q = record {
-  was = p.was;
-  shows = shows_then p.shows q.shows;
-  sound = q.sound;
-  alone = q.alone;
-  has = q.has;
-  former = q.former;
-}
+    later_other : (tree : ℕ) → next < tree → IsOther l tree
+    later_other tree later p same = let low = below p in omega (arith, same, low, later)
 
--- where a step ended, it may go on
-pub moving_here : {a b : State} {v : ℕ} {ps : List Player} {e : EventValue} {s : ℕ} {f : List Row}
-    → IsMoving a b v ps e s f → IsMoving b b v ps e s f
-moving_here p = record {
-  was = p.shows.mode;
-  shows = record { was_open = p.shows.is_open; is_open = p.shows.is_open; now_is = refl; committed_is = refl; mode = p.shows.mode };
-  sound = p.sound;
-  alone = p.alone;
-  has = p.has;
-  former = p.former;
-}
+    -- the five of version 1 still stand
+    pub still : HasTablesAt l new.now.schema
+    still = still_has behind lies l has
+        (subst (λ ts. AllByRecursion (λ (t : Table). AllByRecursion (LeadsElsewhere l ts) t.references) ts) (sym lies)
+        (all_lead (IsOther l) front behind has.apart (named_by_none (IsOther l) later_other) bare))
+
+    -- a foreign key of a table that stood leads to none of version 2
+    led_before : AllByRecursion (λ (t : Table). AllByRecursion (LeadsElsewhere after front) t.references) front
+    led_before = all_weaker _ _ (λ t all. all_weaker _ _ (λ ref leads key is.
+        let it = key_listed front ref key is in
+        other_after l next key.0 (leads key is)
+        (λ same. let low = table_below old.now.schema it.0 it.1 in let own = it.3 in omega (arith, same, low, own)))
+        t.references all) front has.apart
+
+    -- and those of version 2 are there
+    pub come : HasTablesAt after new.now.schema
+    unfolding everything
+    come =
+        let found = found_behind made.grows made.free refl in
+        let read = read_behind made.grows (λ n. refl) made.goes.sound in
+        record {
+          known = inr refl;
+          has = elim [
+            | EventTable ↦ ((has.has EventTable).0, still_there behind lies (event (l.tree EventTable)) (has.has EventTable).1)
+            | PlayerTable ↦ (length front, record { named = found.named; is = found.is; low = read.low; found = read.found })
+            | PairingTable ↦ ((has.has PairingTable).0, still_there behind lies (pairing (l.tree PairingTable)) (has.has PairingTable).1)
+            | BracketTable ↦ ((has.has BracketTable).0, still_there behind lies (bracket (l.tree BracketTable)) (has.has BracketTable).1)
+            | TallyTable ↦ ((has.has TallyTable).0, still_there behind lies (tally (l.tree TallyTable)) (has.has TallyTable).1)
+          ];
+          apart = subst (λ ts. AllByRecursion (λ (t : Table). AllByRecursion (LeadsElsewhere after ts) t.references) ts) (sym lies)
+              (all_lead (IsOther after) front behind led_before
+              (named_by_none (IsOther after) (λ tree later. other_after l next tree (later_other tree later)
+              (λ same. omega (arith, same, later))))
+              bare);
+        }
+
+    -- the rows of the five are those that they had
+    pub rows_kept : (p : Place) → new.now.trees (l.tree p) ≡ old.now.trees (l.tree p)
+    rows_kept p = subst (λ n. new.now.trees n ≡ old.now.trees n) (tree_is l p)
+        (of_ours l has (λ (t : Table). new.now.trees t.tree ≡ old.now.trees t.tree) made.grows.keeps.rows p)
 
 -- ---- the table is made
 
-pub player2_created : {old new : State} {e : EventValue} {s : ℕ} → MayMove old e s → Ran create_player2 [] old new
-    → IsMoving old new 1 [] e s (old.now.trees player_tree)
+pub player2_created : {old new : State} {e : EventValue} {s : ℕ} → (may : MayMove old e s) → Ran create_player2 [] old new
+    → IsMoveBegun may.represents.layout e s old new
 player2_created {old} {new} {e} {s} may ran =
-    let made = makes player2_moved may.alone ran in
-    let are : new.now.schema.tables ≡ moved_schema.tables = ap (λ (it : Schema). it.tables) made.schema in
-    let empty : new.now.trees moved_tree ≡ [] = made.empty in
-    let kept = made.others in
-    let was = may.represents.has.rows in
+    let made = player2_beside ran in
+    let l = may.represents.layout in
+    let was = may.represents.represents.has in
+    let shown = rw may.represents.is at was.rows in
+    let kept = rows_kept made l was.tables may.unawaited in
     record {
-      was = made.was;
-      shows = made.shows;
-      sound = made.sound;
-      alone = are;
+      goes = made.goes;
+      first = may.represents.is;
+      stand = still made l was.tables may.unawaited;
       has = record {
-        tables = has_moved are;
+        tables = come made l was.tables may.unawaited;
         rows = elim [
-          | EventTable ↦ rw kept.0 (was EventTable)
-          | PlayerTable ↦ rw empty (IsPermutation-refl [])
-          | PairingTable ↦ rw kept.1.1.0 (was PairingTable)
-          | BracketTable ↦ rw kept.1.1.1.0 (was BracketTable)
-          | TallyTable ↦ rw kept.1.1.1.1.0 (was TallyTable)
+          | EventTable ↦ rw (kept EventTable) (shown EventTable)
+          | PlayerTable ↦ rw made.grows.empty (IsPermutation-refl [])
+          | PairingTable ↦ rw (kept PairingTable) (shown PairingTable)
+          | BracketTable ↦ rw (kept BracketTable) (shown BracketTable)
+          | TallyTable ↦ rw (kept TallyTable) (shown TallyTable)
         ];
-        keyed = record {
-          pairings = rw kept.1.1.0 may.represents.has.keyed.pairings;
-          bracket = rw kept.1.1.1.0
-              may.represents.has.keyed.bracket;
-        };
+        keyed = record { pairings = rw (kept PairingTable) was.keyed.pairings; bracket = rw (kept BracketTable) was.keyed.bracket };
       };
-      former = kept.1.0;
+      former = kept PlayerTable;
+      keeps = record {
+        first = made.grows.keeps.first;
+        just = made.just;
+        next = refl;
+        stood = was.tables;
+        rows = all_weaker _ _ (λ t same other. same) old.now.schema.tables made.grows.keeps.rows;
+      };
     }
 
--- ---- the players are put in
+-- ---- one step after another
 
--- one more
-pub player2_added : {old new : State} {ps : List Player} {e : EventValue} {s : ℕ} {f : List Row} (p : Player)
-    → IsMoving old old 1 ps e s f → Puts moved_tree (stored_player2 p.no p.name p.dropped p.joined) old new
-    → IsMoving old new 1 (ps ++ p ∷ []) e s f
-player2_added {old} {new} {ps} {e} {s} p here put =
-    let shown : Row = player_columns (player_row p) in
-    let more = shows_more (player_shown 2) _ _ shown _ put.free refl (here.has.rows PlayerTable) in
-    record {
-      was = put.goes.was;
-      shows = put.goes.shows;
-      sound = put.goes.sound;
-      alone = still_alone here.alone put.goes;
-      has = rows_set moved_layout moved_tree here.has put.goes (elim [
+pub moving_then : {m : Move} {a b c : State} {v w : ℕ} {ps qs : List Player} {f g : List Row} → IsMoving m a b v ps f
+    → IsMoving m b c w qs g → IsMoving m a c w qs g
+moving_then p q = record {
+  goes = goes_then p.goes q.goes;
+  first = q.first;
+  stand = q.stand;
+  has = q.has;
+  former = q.former;
+  keeps = q.keeps;
+}
+
+-- where a step ended, it may go on
+pub moving_here : {m : Move} {a b : State} {v : ℕ} {ps : List Player} {f : List Row} → IsMoving m a b v ps f → IsMoving m b b v ps f
+moving_here {b = b} p = record {
+  goes = record {
+    was = p.goes.shows.mode;
+    shows = record { was_open = p.goes.shows.is_open; is_open = p.goes.shows.is_open; now_is = refl; committed_is = refl; mode = p.goes.shows.mode };
+    sound = p.goes.sound;
+  };
+  first = p.first;
+  stand = p.stand;
+  has = p.has;
+  former = p.former;
+  keeps = p.keeps;
+}
+
+-- `player` and `player2` have trees of their own
+players_apart : {m : Move} {a b : State} {v : ℕ} {ps : List Player} {f : List Row} → IsMoving m a b v ps f
+    → m.from.tree PlayerTable ≢ m.players
+unfolding everything
+players_apart {m} {b = b} here same =
+    let one = (player_there m.from here.first here.stand).1 in
+    let two = (player2_there (layout_after m) refl here.has.tables).1 in
+    let tables : player (m.from.tree PlayerTable) ≡ player2 m.players = same_Some _ _ (sym one.found
+    ∙ (ap (λ tree. find (λ (t : Table). t.tree == tree) b.now.schema.tables) same ∙ two.found)) in
+    let long : length (player (m.from.tree PlayerTable)).name ≡ length (player2 m.players).name = ap
+    (λ (t : Table). length t.name) tables in
+    cc
+
+module _ {m : Move} {old new : State} {v : ℕ} {ps : List Player} {f : List Row} (here : IsMoving m old old v ps f) where
+  -- a statement on one table leaves `player`, and what stood before
+  step : (tree : ℕ) (w : ℕ) (qs : List Player) (g : List Row) → Goes tree old new
+      → HasRows (layout_after m) new.now (rows_with w (record m.event { players = qs }) m.serial (tally_rows m.event))
+      → new.now.trees (m.from.tree PlayerTable) ≡ g
+      → ((t : Table) → Has m.before.schema.tables t → IsOther m.from t.tree → t.tree ≢ tree) → IsMoving m old new w qs g
+  step tree w qs g goes has former elsewhere =
+      let k = here.keeps in
+      record {
+        goes = record { was = goes.was; shows = goes.shows; sound = goes.sound };
+        first = here.first;
+        stand = subst (HasTablesAt m.from) (sym goes.schema) here.stand;
+        has = has;
+        former = former;
+        keeps = record {
+          first = record {
+            more = k.first.more;
+            tables = ap (λ (s : Schema). s.tables) goes.schema ∙ k.first.tables;
+            keys = k.first.keys;
+            indexes = ap (λ (s : Schema). s.indexes) goes.schema ∙ k.first.indexes;
+            views = ap (λ (s : Schema). s.views) goes.schema ∙ k.first.views;
+          };
+          just = k.just;
+          next = k.next;
+          stood = k.stood;
+          rows = all_from _ m.before.schema.tables (λ t h other.
+              all_has (λ (t : Table). t.tree ≢ tree → new.now.trees t.tree ≡ old.now.trees t.tree) old.now.schema.tables t goes.others
+              (subst (λ ts. Has ts t) (sym k.first.tables) (has_left m.before.schema.tables k.first.more t h)) (elsewhere t h other)
+              ∙ all_has (λ (t : Table). IsOther m.from t.tree → old.now.trees t.tree ≡ m.before.trees t.tree) m.before.schema.tables t
+              k.rows h other);
+        };
+      }
+
+  -- ---- the players are put in
+
+  -- one more
+  pub player2_added : (p : Player) → Puts m.players (stored_player2 p.no p.name p.dropped p.joined) old new
+      → IsMoving m old new v (ps ++ p ∷ []) f
+  player2_added p put =
+      let shown : Row = player_columns (player_row p) in
+      let more = shows_more (player_shown 2) _ _ shown _ put.free refl (here.has.rows PlayerTable) in
+      let five = apart (layout_after m) here.has.tables in
+      step m.players v (ps ++ p ∷ []) f put.goes (rows_set (layout_after m) m.players here.has put.goes (elim [
+        | EventTable ↦ λ same. same (five EventTable PlayerTable refl)
         | PlayerTable ↦ λ same. rw (
           put.rows,
           map-append player_row ps (p ∷ []),
           map-append player_columns (map player_row ps) (player_row p ∷ []),
         ) more
-        | _ ↦ λ same. same (λ x. cc)
-      ]) (λ keyed. keyed (λ x. cc)) (λ keyed. keyed (λ x. cc));
-      former = former_kept moved_tree old new here.alone put.goes (λ x. cc) ∙ here.former;
-    }
+        | PairingTable ↦ λ same. same (five PairingTable PlayerTable refl)
+        | BracketTable ↦ λ same. same (five BracketTable PlayerTable refl)
+        | TallyTable ↦ λ same. same (five TallyTable PlayerTable refl)
+      ]) (λ keyed. keyed (five PairingTable PlayerTable refl)) (λ keyed. keyed (five BracketTable PlayerTable refl)))
+      (kept m.from m.players old new here.stand put.goes PlayerTable (players_apart here) ∙ here.former)
+      (λ t h other same. let low = table_below m.before.schema t h in let is = here.keeps.next in omega (arith, same, low, is))
 
--- ---- the former rows are deleted
+  -- ---- the former rows are deleted
 
-pub players_cleared : {old new : State} {v : ℕ} {ps : List Player} {e : EventValue} {s : ℕ} {f : List Row}
-    → IsMoving old old v ps e s f → All HasNumber f → Ran clear_players [] old new → IsMoving old new v ps e s []
-players_cleared {old} {new} here numbered ran =
-    let are = here.alone in
-    let there = ((has_old are).has PlayerTable).1 in
-    let c = clears (player player_tree) (clear_means there) there.is
-    (λ keys olds. no_works old.now.schema are keys player_tree olds []) (subst (All HasNumber) (sym here.former) numbered) ran in
-    record {
-      was = c.goes.was;
-      shows = c.goes.shows;
-      sound = c.goes.sound;
-      alone = still_alone are c.goes;
-      has = rows_set moved_layout player_tree here.has c.goes (elim [ EventTable ↦ λ same. same (λ x. cc) | _ ↦ λ same. same (λ x. cc) ])
-          (λ keyed. keyed (λ x. cc))
-          (λ keyed. keyed (λ x. cc));
-      former = c.empty;
-    }
+  pub players_cleared : All HasNumber f → Ran clear_players [] old new → IsMoving m old new v ps []
+  players_cleared numbered ran =
+      let tree = m.from.tree PlayerTable in
+      let there = (player_there m.from here.first here.stand).1 in
+      let c = clears (player tree) (clear_means there) there.is
+      (λ keys olds. no_works_elsewhere old.now.schema keys tree olds [] (no_parent m.from here.stand PlayerTable))
+      (subst (All HasNumber) (sym here.former) numbered) ran in
+      let five = apart m.from here.stand in
+      step tree v ps [] c.goes (rows_set (layout_after m) tree here.has c.goes (elim [
+        | EventTable ↦ λ same. same (five EventTable PlayerTable refl)
+        | PlayerTable ↦ λ same. same (λ x. players_apart here (sym x))
+        | PairingTable ↦ λ same. same (five PairingTable PlayerTable refl)
+        | BracketTable ↦ λ same. same (five BracketTable PlayerTable refl)
+        | TallyTable ↦ λ same. same (five TallyTable PlayerTable refl)
+      ]) (λ keyed. keyed (five PairingTable PlayerTable refl)) (λ keyed. keyed (five BracketTable PlayerTable refl)))
+      c.empty
+      (λ t h other. other PlayerTable)
 
--- ---- the version is set
+  -- ---- the version is set
 
-pub version_set : (w : ℕ) {old new : State} {v : ℕ} {ps : List Player} {e : EventValue} {s : ℕ} {f : List Row}
-    → IsMoving old old v ps e s f → Ran set_version (number_value w ∷ []) old new → IsMoving old new w ps e s f
-version_set w {old} {new} {v} {ps} {e} {s} here ran =
-    let set = event_replaced moved_layout version_terms (number_value w) (event_columns (event_row v e s))
-    (stored_event w e s) here.has.tables
-    (here.has.rows EventTable) (version_means (here.has.tables.has EventTable).1) (λ r h. (cc, cc)) (simp (cast_int, cast_null)) ran in
-    record {
-      was = set.goes.was;
-      shows = set.goes.shows;
-      sound = set.goes.sound;
-      alone = still_alone here.alone set.goes;
-      has = rows_set moved_layout event_tree here.has set.goes (elim [
+  pub version_set : (w : ℕ) → Ran set_version (number_value w ∷ []) old new → IsMoving m old new w ps f
+  version_set w ran =
+      let tree = m.from.tree EventTable in
+      let e = m.event in
+      let set = event_replaced (layout_after m) version_terms (number_value w) (event_columns (event_row v e m.serial))
+      (stored_event w e m.serial) here.has.tables
+      (here.has.rows EventTable) (version_means (here.has.tables.has EventTable).1) (λ r h. (cc, cc)) (simp (cast_int, cast_null)) ran in
+      let five = apart (layout_after m) here.has.tables in
+      step tree w ps f set.goes (rows_set (layout_after m) tree here.has set.goes (elim [
         | EventTable ↦ λ same. rw set.rows (IsPermutation-refl _)
-        | _ ↦ λ same. same (λ x. cc)
-      ]) (λ keyed. keyed (λ x. cc)) (λ keyed. keyed (λ x. cc));
-      former = former_kept event_tree old new here.alone set.goes (λ x. cc) ∙ here.former;
-    }
+        | PlayerTable ↦ λ same. same (five PlayerTable EventTable refl)
+        | PairingTable ↦ λ same. same (five PairingTable EventTable refl)
+        | BracketTable ↦ λ same. same (five BracketTable EventTable refl)
+        | TallyTable ↦ λ same. same (five TallyTable EventTable refl)
+      ]) (λ keyed. keyed (five PairingTable EventTable refl)) (λ keyed. keyed (five BracketTable EventTable refl)))
+      (kept m.from tree old new here.stand set.goes PlayerTable (apart m.from here.stand PlayerTable EventTable refl) ∙ here.former)
+      (λ t h other. other EventTable)
 
 -- ---- the whole
 
@@ -213,24 +293,31 @@ lead_by_number [] = tt
 lead_by_number (p ∷ ps) = ((pos p.no, refl), lead_by_number ps)
 
 -- the rows of version 1's players are told by numbers
-pub former_numbered : {db : Database} {e : EventValue} {s : ℕ} → RepresentsAt old_layout db e s → All HasNumber (db.trees player_tree)
-former_numbered {db} {e} represents k d below =
-    let rows = db.trees player_tree in
-    let all = All-permutation LeadsByNumber _ (map (player_shown 1) rows) (IsPermutation-sym _ _ (represents.has.rows PlayerTable))
+pub former_numbered : {db : Database} {e : EventValue} {s : ℕ} → (it : RepresentsIn 1 db e s)
+    → All HasNumber (db.trees (it.layout.tree PlayerTable))
+former_numbered {db} {e} it k d below =
+    let rows = db.trees (it.layout.tree PlayerTable) in
+    let shown = rw it.is at it.represents.has.rows in
+    let all = All-permutation LeadsByNumber _ (map (player_shown 1) rows) (IsPermutation-sym _ _ (shown PlayerTable))
     (All-from_recursion LeadsByNumber _ (lead_by_number e.players)) in
     let long : k < length (map (player_shown 1) rows) = subst (λ n. k < n) (sym (length-map rows (player_shown 1))) below in
     subst LeadsByNumber (get_or-map (player_shown 1) rows k d) (all k (player_shown 1 d) long)
 
-pub is_moved : {old new : State} {e : EventValue} {s : ℕ} → s ≤ 999999 → IsMoving old new 2 e.players e s [] → IsMoved new e s
-is_moved low end = record {
-  sound = end.sound;
-  represents = record { low = low; keeps = record { rounds = λ is. absurd (cc); players = λ is. absurd (cc) }; has = end.has };
-  emptied = end.former;
+pub is_moved : {m : Move} {old new : State} → m.serial ≤ 999999 → IsMoving m old new 2 m.event.players []
+    → IsMoved m.before new m.event m.serial
+is_moved {m} {new = new} low end = record {
+  sound = end.goes.sound;
+  represents = record {
+    layout = layout_after m;
+    is = refl;
+    represents = record { low = low; keeps = record { rounds = λ is. absurd (cc); players = λ is. absurd (cc) }; has = end.has };
+  };
+  emptied = λ l is has. ap new.now.trees (same_trees l m.from (is ∙ sym end.first) has end.stand PlayerTable) ∙ end.former;
+  beside = record {
+    first = end.keeps.first;
+    just = end.keeps.just;
+    rows = λ l is has. all_weaker _ _ (λ t kept other.
+        kept (same_others m.from l (λ p. sym (same_trees l m.from (is ∙ sym end.first) has end.keeps.stood p)) t.tree other))
+        m.before.schema.tables end.keeps.rows;
+  };
 }
-
--- tables of version 1 that stand alone lie as creation made them
-pub stands_old : {db : Database} {e : EventValue} {s : ℕ} → StandsAlone db.schema → RepresentsIn 1 db e s → RepresentsAt old_layout db e s
-stands_old {db} alone it =
-    represents_too it.layout old_layout it.is (has_again old_layout old_schema db.schema
-    (ap (λ (s : Schema). s.tables) (sym alone)) first_has)
-    it.represents

@@ -103,7 +103,7 @@ pub use Rattle.er_store.specs.Rows.{player_columns, bracket_places, event_column
 pub use Rattle.er_store.specs.Shape.{Form, Shape}
 pub use Rattle.er_store.specs.Slip.{match_of_slip, is_swapped, Side, number_of_side, name_of_side, named_pairing, IsPlayer, IsLawfulSlip}
 pub use Rattle.er_store.specs.Slip.{named_pairings}
-pub use Rattle.er_store.specs.Layout.{Layout, IsThere, table_at, StandsAlone}
+pub use Rattle.er_store.specs.Layout.{Layout, IsThere, table_at}
 pub use Rattle.er_store.specs.Representing.{Represents, RepresentsAt, HasTables, HasTablesAt, RepresentsWith, IsOther, CanRead, IsKeyed}
 pub use Rattle.er_store.specs.Representing.{RepresentsNow}
 pub use Rattle.er_store.specs.Representing.{RepresentsIn, IsStoredIn}
@@ -111,8 +111,8 @@ pub use Rattle.er_store.specs.Representing.{rows_in, rows_with, shown_of, KeepsR
 pub use Rattle.er_store.specs.Tables.{event_tree, player_tree, pairing_tree, bracket_tree, tally_tree}
 pub use Rattle.er_store.specs.Tables.{no_schema, pairing, bracket, read_event, player, tally, set_serial, set_phase, set_dropped, set_score}
 pub use Rattle.er_store.specs.Tables.{set_slot_score, set_tally, insert_event, insert_player, insert_pairing, insert_slot, insert_tally}
-pub use Rattle.er_store.specs.Tables.{read_players, read_pairings, read_bracket, read_tallies, read_slip, event, old_schema}
-pub use Rattle.er_store.specs.Tables.{moved_tree, player2, tally_schema, insert_player2, set_dropped2, read_players2, read_slip2}
+pub use Rattle.er_store.specs.Tables.{read_players, read_pairings, read_bracket, read_tallies, read_slip, event}
+pub use Rattle.er_store.specs.Tables.{player2, tally_schema, insert_player2, set_dropped2, read_players2, read_slip2}
 pub use Rattle.er_store.specs.Tables.{read_players_of, read_slip_of}
 pub use Rattle.er_store.specs.Rows.{player2_places, stored_player2}
 pub use Rattle.er_store.specs.declared.tallies.MeetingRow.{MeetingRow}

@@ -43,7 +43,7 @@ shows_more shown new rows shows before free is was =
 
 -- ---- what a statement on one table leaves of the others
 
-kept : (l : Layout) (tree : ℕ) (old new : State) → HasTablesAt l old.now.schema → Goes tree old new → (table : Place)
+pub kept : (l : Layout) (tree : ℕ) (old new : State) → HasTablesAt l old.now.schema → Goes tree old new → (table : Place)
     → l.tree table ≢ tree → new.now.trees (l.tree table) ≡ old.now.trees (l.tree table)
 kept l tree old new has goes table =
     subst (λ k. k ≢ tree → new.now.trees k ≡ old.now.trees k) (tree_is l table)

@@ -15,13 +15,17 @@ use Rattle.er_store.specs.Tables.{event, players_of, pairing, bracket, tally}
 use Rattle.er_store.specs.Rows.{stored_event}
 use Rattle.er_store.specs.Representing.{CanRead}
 
--- What stood in the file stands first in it, as it was, each table with its rows.
-pub record KeepsFirst (old new : Database) : Type 0 where
+-- What stood in the file stands first in it, and what was made comes behind it.
+pub record StandsFirst (old new : Schema) : Type 0 where
   pub more : List Table
-  pub tables : new.schema.tables ≡ old.schema.tables ++ more
+  pub tables : new.tables ≡ old.tables ++ more
   pub keys : List Index
-  pub indexes : new.schema.indexes ≡ old.schema.indexes ++ keys
-  pub views : new.schema.views ≡ old.schema.views
+  pub indexes : new.indexes ≡ old.indexes ++ keys
+  pub views : new.views ≡ old.views
+
+-- It stands as it was, each table with its rows.
+pub record KeepsFirst (old new : Database) : Type 0 where
+  pub first : StandsFirst old.schema new.schema
   pub rows : KeepsRows old.schema.tables old.trees new.trees
 
 -- the table is there, with these rows
@@ -43,7 +47,7 @@ names_taken version =
 -- others have none.
 pub record MakesBeside (version : ℕ) (e : EventValue) (old new : Database) : Type 0 where
   pub keeps : KeepsFirst old new
-  pub just : (table : Table) → Has keeps.more table → Has (names_taken version) table.name
+  pub just : (table : Table) → Has keeps.first.more table → Has (names_taken version) table.name
   pub readable : CanRead new.schema
   pub event : IsMade event (stored_event version e 0 ∷ []) new
   pub players : IsMade (players_of version) [] new

@@ -5,7 +5,7 @@ use Rattle.sqlite.specs.Table.{Table}
 use Rattle.sqlite.specs.Schema.{Schema}
 use Rattle.er_event.specs.declared.refusals.Place.{Place}
 use Rattle.er_event.specs.declared.refusals.Place.TheVariants.{EventTable, PlayerTable, PairingTable, BracketTable, TallyTable}
-use Rattle.er_store.specs.Tables.{event, players_of, pairing, bracket, tally, old_schema}
+use Rattle.er_store.specs.Tables.{event, players_of, pairing, bracket, tally}
 
 -- the version that the five tables are of, and the tree in which each has its rows
 pub record Layout : Type 0 where
@@ -26,7 +26,3 @@ pub record IsThere (schema : Schema) (at : ℕ) (table : Table) : Type 0 where
   pub is : slice_get schema.tables at ≡ Some table
   pub low : nat_le (2 ^ 31) table.tree ≡ false
   pub found : find (λ t. t.tree == table.tree) schema.tables ≡ Some table
-
--- The tables of version 1 stand alone in the file, as creation leaves them: with no other table, index or view.
-abbrev pub StandsAlone : Schema → Type 0
-StandsAlone schema = schema ≡ old_schema

@@ -1,30 +1,48 @@
 -- What a migration promises.
-use Rattle.std.specs.Prelude.{◌≡◌, ◌⊎◌, ℕ, [], Bool, true, IsTrue, IsFalse, IsErr, OnOk, OnErr, Result, Ok, Err, codes}
+use Rattle.std.specs.Prelude.{◌≡◌, ◌⊎◌, ℕ, List, [], ◌∷◌, Bool, true, false, IsTrue, IsFalse, IsErr, OnOk, OnErr, Result, Ok, Err, codes}
+use Rattle.std.specs.List.{AllByRecursion}
 use Rattle.sqlite_catalog.specs.Change.{is_used}
+use Rattle.sqlite_rules.specs.Lists.{Has}
+use Rattle.sqlite_schema.specs.Names.{same_name}
 use Rattle.sqlite.specs.Effect.{Database}
+use Rattle.sqlite.specs.Schema.{Schema}
+use Rattle.sqlite.specs.Table.{Table}
 use Rattle.sqlite.specs.Tree.{Trees}
 use Rattle.sqlite.specs.State.{State, HasCleanDisk}
 use Rattle.sqlite_trees.specs.declared.store.Store.{Ghosts}
 use Rattle.er_event.specs.Event.{EventValue}
+use Rattle.er_event.specs.declared.refusals.Place.TheVariants.{PlayerTable}
 use Rattle.er_event.specs.declared.refusals.Refusal.{Refusal}
 use Rattle.er_event.specs.declared.refusals.Refusal.TheVariants.{NeedsReopen}
 use Rattle.er_store.specs.declared.Store.{Store}
 use Rattle.er_store.specs.Fault.{IsFault}
-use Rattle.er_store.specs.Tables.{player_tree}
-use Rattle.er_store.specs.Layout.{StandsAlone}
+use Rattle.er_store.specs.Beside.{StandsFirst}
+use Rattle.er_store.specs.Layout.{Layout}
 use Rattle.er_store.specs.Reading.{KeepsTables}
-use Rattle.er_store.specs.Representing.{IsStoredIn, RepresentsNow, AfterCrash}
+use Rattle.er_store.specs.Representing.{HasTablesAt, IsOther, IsStoredIn, RepresentsNow, AfterCrash}
 use Rattle.er_store.specs.Store.{store_state, store_version, needs_reopen}
 
--- The tables represent the event in version 1, and alone in the file.
-pub record IsVersion1Alone (s : State) (e : EventValue) (serial : ℕ) : Type 0 where
-  pub shows : RepresentsNow 1 s e serial
-  pub alone : StandsAlone s.now.schema
+-- no foreign key waits for a table `player2`
+abbrev pub NoneAwaitsPlayer2 : Schema → Type 0
+NoneAwaitsPlayer2 schema = AllByRecursion (λ t. AllByRecursion
+    (λ ref. same_name (codes "player2") ref.parent ≡ false) t.references) schema.tables
 
--- They represent it in version 2, totals included, and `player` has no rows.
+-- The tables represent the event in version 1, and no foreign key waits for a table `player2`.
+pub record CanMigrate (s : State) (e : EventValue) (serial : ℕ) : Type 0 where
+  pub shows : RepresentsNow 1 s e serial
+  pub unawaited : NoneAwaitsPlayer2 s.now.schema
+
+-- They represent it in version 2, totals included, and `player`, which stays, has no rows.
 pub record IsMigrated (s : State) (e : EventValue) (serial : ℕ) : Type 0 where
   pub shows : RepresentsNow 2 s e serial
-  pub emptied : s.now.trees player_tree ≡ []
+  pub emptied : (l : Layout) → l.version ≡ 1 → HasTablesAt l s.now.schema → s.now.trees (l.tree PlayerTable) ≡ []
+
+-- What stood stands first, and behind it `player2`. The tables of others have the rows that they had.
+pub record MigratesBeside (old new : Database) : Type 0 where
+  pub first : StandsFirst old.schema new.schema
+  pub just : (table : Table) → Has first.more table → Has (codes "player2" ∷ codes "sqlite_sequence" ∷ []) table.name
+  pub rows : (l : Layout) → l.version ≡ 1 → HasTablesAt l old.schema
+      → AllByRecursion (λ t. IsOther l t.tree → new.trees t.tree ≡ old.trees t.tree) old.schema.tables
 
 -- a table, an index or a view has the name `player2` already
 abbrev pub IsTaken : Database → Type 0
@@ -63,11 +81,14 @@ pub record MovesTables {S : Type 0} (g : Ghosts S) (e : EventValue) (serial : �
   -- it is refused where the name `player2` is taken, and a crash then leaves version 1
   pub taken : IsFalse (needs_reopen old) → store_version old ≡ 1 → HasCleanDisk (store_state g new) → IsTaken (store_state g old).now
       → IsErr result × (RepresentsNow 1 (store_state g old) e serial → AfterCrash (store_state g new) (IsStoredIn 1 e serial))
-  -- tables that represent the event in version 1, and alone, then represent it in version 2, totals included, and `player` has no rows
-  pub migrated : HasCleanDisk (store_state g new) → store_version old ≡ 1 → IsVersion1Alone (store_state g old) e serial
+  -- tables that represent the event in version 1 then represent it in version 2, totals included, and `player` has no rows
+  pub migrated : HasCleanDisk (store_state g new) → store_version old ≡ 1 → CanMigrate (store_state g old) e serial
       → OnOk result (IsMigrated (store_state g new) e serial)
-  pub acknowledged : store_version old ≡ 1 → IsVersion1Alone (store_state g old) e serial
+  -- whatever stood beside them stays
+  pub beside : HasCleanDisk (store_state g new) → store_version old ≡ 1 → CanMigrate (store_state g old) e serial
+      → OnOk result (MigratesBeside (store_state g old).now (store_state g new).now)
+  pub acknowledged : store_version old ≡ 1 → CanMigrate (store_state g old) e serial
       → OnOk result (AfterCrash (store_state g new) (IsStoredIn 2 e serial))
   -- at every exit a crash leaves version 1 or version 2, whole
-  pub crash : IsFalse (needs_reopen old) → store_version old ≡ 1 → IsVersion1Alone (store_state g old) e serial
+  pub crash : IsFalse (needs_reopen old) → store_version old ≡ 1 → CanMigrate (store_state g old) e serial
       → AfterCrash (store_state g new) (IsStoredWhole e serial)

@@ -163,10 +163,6 @@ bracket_tree = 6
 abbrev pub tally_tree : ℕ
 tally_tree = 8
 
--- where a migration puts the players: behind the nine trees of version 1
-abbrev pub moved_tree : ℕ
-moved_tree = 9
-
 -- the indexes that SQLite makes for the keys
 abbrev pub key : List ℕ → ℕ → ℕ → List ℕ → Index
 key name tree table columns = record {
@@ -218,20 +214,6 @@ tally_schema players = record {
       names_key players 2 ∷ key (codes "sqlite_autoindex_pairing_1") 4 pairing_tree (1 ∷ 2 ∷ [])
       ∷ key (codes "sqlite_autoindex_pairing_2") 5 pairing_tree (3 ∷ 4 ∷ [])
       ∷ key (codes "sqlite_autoindex_bracket_1") 7 bracket_tree (1 ∷ 2 ∷ []) ∷ [];
-  views = [];
-}
-
--- what creation makes in version 1
-abbrev pub old_schema : Schema
-old_schema = tally_schema (player player_tree)
-
--- and what a migration makes of it
-abbrev pub moved_schema : Schema
-moved_schema = record {
-  tables =
-      event event_tree ∷ player player_tree ∷ pairing pairing_tree ∷ bracket bracket_tree ∷ tally tally_tree
-      ∷ player2 moved_tree ∷ [];
-  indexes = old_schema.indexes ++ names_key (player2 moved_tree) 10 ∷ [];
   views = [];
 }
 

@@ -6,7 +6,7 @@ ghost use Rattle.er_store.specs.Tables.{player_schema, pairing_schema, bracket_s
 ghost use Rattle.er_store.specs.inside.Steps.{made_players, CreatesAll};
 ghost use Rattle.er_store.specs.inside.Within.{tx_state, Lends, Achieves, MakesNext};
 ghost use Rattle.er_store.specs.inside.Making.{MakesFive};
-ghost use Rattle.er_store.specs.inside.Moving.{MayMove, IsMoving};
+ghost use Rattle.er_store.specs.inside.Moving.{MayMove, IsMoveBegun};
 ghost use Rattle.er_store.specs.Migrated.{IsTaken};
 
 use crate::statements::run;
@@ -43,9 +43,8 @@ pub fn create_player2<S: Alter>(tx: &mut Transaction<'_, S>) -> Result<(), Error
     ensures lends { Lends S.Store tx.old tx.new }
     ensures makes { MakesNext S.Store player2 event_schema (player_schema (player2 player_tree))
         tx.old result tx.new }
-    ensures moves { (e : EventValue) (s : ℕ) → MayMove (tx_state S.Store tx.old) e s
-        → Achieves S.Store (λ a b. IsMoving a b 1 [] e s (a.now.trees player_tree)) tx.old result
-        tx.new }
+    ensures moves { (e : EventValue) (s : ℕ) → (may : MayMove (tx_state S.Store tx.old) e s)
+        → Achieves S.Store (IsMoveBegun may.represents.layout e s) tx.old result tx.new }
     ensures taken { HasCleanDisk (tx_state S.Store tx.new) → IsTaken (tx_state S.Store tx.old).now
         → IsErr result }
 {

@@ -6,9 +6,9 @@ ghost use Rattle.sqlite.specs.Order.{Row};
 ghost use Rattle.sqlite.specs.Held.{state};
 ghost use Rattle.er_event.specs.declared.players.Player.{Player};
 ghost use Rattle.er_event.specs.Event.{EventValue};
-ghost use Rattle.er_store.specs.Migrated.{IsVersion1Alone, IsMigrated, IsStoredWhole, IsTaken};
+ghost use Rattle.er_store.specs.Migrated.{CanMigrate, IsMigrated, IsStoredWhole, IsTaken, MigratesBeside};
 ghost use Rattle.er_store.specs.Representing.{AfterCrash, IsStoredIn, RepresentsNow};
-ghost use Rattle.er_store.specs.inside.Moving.{HaveNumbers, IsMoving, IsMoved, MayMove};
+ghost use Rattle.er_store.specs.inside.Moving.{HaveNumbers, Move, IsMoving, IsMoved, MayMove};
 ghost use Rattle.er_store.specs.inside.Looking.{Transacts};
 ghost use Rattle.er_store.specs.inside.Within.{tx_state, Lends, Achieves, Inside};
 
@@ -20,9 +20,9 @@ use sqlite::{Alter, Connection, Error, Transaction, params};
 /// Inserts the players of the event.
 fn copy_players<S: Alter>(tx: &mut Transaction<'_, S>, event: &Event) -> Result<(), Error>
     ensures lends { Lends S.Store tx.old tx.new }
-    ensures copies { (e : EventValue) (s : ℕ) (former : List Row)
-        → IsMoving (tx_state S.Store tx.old) (tx_state S.Store tx.old) 1 [] e s former
-        → Achieves S.Store (λ a b. IsMoving a b 1 event.now.players e s former) tx.old result tx.new }
+    ensures copies { (move : Move) (former : List Row)
+        → IsMoving move (tx_state S.Store tx.old) (tx_state S.Store tx.old) 1 [] former
+        → Achieves S.Store (λ a b. IsMoving move a b 1 event.now.players former) tx.old result tx.new }
 {
     for player in event.players() {
         let number = u32::from(player.no.get());
@@ -37,11 +37,10 @@ pub const CLEAR_PLAYERS: &str = "DELETE FROM player";
 /// Deletes all rows of the table `player`.
 fn clear_players<S: Alter>(tx: &mut Transaction<'_, S>) -> Result<(), Error>
     ensures lends { Lends S.Store tx.old tx.new }
-    ensures clears { (version : ℕ) (players : List Player) (e : EventValue) (s : ℕ)
-        (former : List Row)
-        → IsMoving (tx_state S.Store tx.old) (tx_state S.Store tx.old) version players e s former
+    ensures clears { (move : Move) (version : ℕ) (players : List Player) (former : List Row)
+        → IsMoving move (tx_state S.Store tx.old) (tx_state S.Store tx.old) version players former
         → HaveNumbers former
-        → Achieves S.Store (λ a b. IsMoving a b version players e s []) tx.old result tx.new }
+        → Achieves S.Store (λ a b. IsMoving move a b version players []) tx.old result tx.new }
 {
     run(tx, CLEAR_PLAYERS, &[])
 }
@@ -51,9 +50,9 @@ pub const SET_VERSION: &str = "UPDATE event SET version = ?1";
 /// Sets the version of the event's row.
 fn set_version<S: Alter>(tx: &mut Transaction<'_, S>, version: u32) -> Result<(), Error>
     ensures lends { Lends S.Store tx.old tx.new }
-    ensures sets { (was : ℕ) (players : List Player) (e : EventValue) (s : ℕ) (former : List Row)
-        → IsMoving (tx_state S.Store tx.old) (tx_state S.Store tx.old) was players e s former
-        → Achieves S.Store (λ a b. IsMoving a b version players e s former) tx.old result tx.new }
+    ensures sets { (move : Move) (was : ℕ) (players : List Player) (former : List Row)
+        → IsMoving move (tx_state S.Store tx.old) (tx_state S.Store tx.old) was players former
+        → Achieves S.Store (λ a b. IsMoving move a b version players former) tx.old result tx.new }
     ensures inside { Achieves S.Store Inside tx.old result tx.new }
 {
     run(tx, SET_VERSION, params![version])
@@ -63,7 +62,7 @@ fn set_version<S: Alter>(tx: &mut Transaction<'_, S>, version: u32) -> Result<()
 fn move_players<S: Alter>(tx: &mut Transaction<'_, S>, event: &Event) -> Result<(), Error>
     ensures lends { Lends S.Store tx.old tx.new }
     ensures moves { (s : ℕ) → MayMove (tx_state S.Store tx.old) event.now s
-        → Achieves S.Store (λ a b. IsMoved b event.now s) tx.old result tx.new }
+        → Achieves S.Store (λ a b. IsMoved a.now b event.now s) tx.old result tx.new }
     ensures taken { HasCleanDisk (tx_state S.Store tx.new) → IsTaken (tx_state S.Store tx.old).now
         → IsErr result }
     ensures inside { Achieves S.Store Inside tx.old result tx.new }
@@ -79,11 +78,14 @@ pub fn migrate_tables<S: Alter>(conn: &mut Connection<S>, event: &Event) -> Resu
     requires mode { conn.old.in_transaction ≡ false }
     ensures transacts { Transacts S.Store conn.old result conn.new }
     ensures migrated { HasCleanDisk (state S.Store conn.new) → (s : ℕ)
-        → IsVersion1Alone (state S.Store conn.old) event.now s
+        → CanMigrate (state S.Store conn.old) event.now s
         → OnOk result (IsMigrated (state S.Store conn.new) event.now s) }
-    ensures acknowledged { (s : ℕ) → IsVersion1Alone (state S.Store conn.old) event.now s
+    ensures beside { HasCleanDisk (state S.Store conn.new) → (s : ℕ)
+        → CanMigrate (state S.Store conn.old) event.now s
+        → OnOk result (MigratesBeside (state S.Store conn.old).now (state S.Store conn.new).now) }
+    ensures acknowledged { (s : ℕ) → CanMigrate (state S.Store conn.old) event.now s
         → OnOk result (AfterCrash (state S.Store conn.new) (IsStoredIn 2 event.now s)) }
-    ensures crash { (s : ℕ) → IsVersion1Alone (state S.Store conn.old) event.now s
+    ensures crash { (s : ℕ) → CanMigrate (state S.Store conn.old) event.now s
         → AfterCrash (state S.Store conn.new) (IsStoredWhole event.now s) }
     ensures taken { HasCleanDisk (state S.Store conn.new) → IsTaken (state S.Store conn.old).now
         → IsErr result × ((s : ℕ) → RepresentsNow 1 (state S.Store conn.old) event.now s

@@ -1,5 +1,6 @@
 -- Tables that are made behind those that stand, and one that is found by its name.
 use Rattle.std.specs.Prelude.{◌≡◌, ◌<◌, ℕ, true, false, List, [], ◌∷◌, Some, slice_get, codes, IsTrue}
+use Rattle.std.specs.List.{AllByRecursion}
 use Rattle.sqlite_catalog.specs.Change.{is_used, next_tree}
 use Rattle.sqlite_schema.specs.Names.{table_named}
 use Rattle.sqlite.specs.Table.{Table}
@@ -20,7 +21,7 @@ pub record IsFound (schema : Schema) (at : ℕ) (table : Table) : Type 0 where
 pub record Grows (table : ℕ → Table) (old new : Database) : Type 0 where
   pub keeps : KeepsFirst old new
   pub rest : List Table
-  pub behind : keeps.more ≡ table (next_tree old.schema) ∷ rest
+  pub behind : keeps.first.more ≡ table (next_tree old.schema) ∷ rest
   pub empty : new.trees (next_tree old.schema) ≡ []
 
 -- the transaction goes on from the one to the other
@@ -29,12 +30,18 @@ pub record ContinuesTransaction (old new : State) : Type 0 where
   pub shows : Shows old new new.now old.committed true
   pub sound : IsDatabase new.now
 
+-- it has a later tree, and no foreign key
+pub record IsBareAfter (tree : ℕ) (table : Table) : Type 0 where
+  pub later : tree < table.tree
+  pub bare : table.references ≡ []
+
 -- a table of this name was made, and no other but SQLite's own of counts
 pub record MakesTable (table : ℕ → Table) (old new : State) : Type 0 where
   pub goes : ContinuesTransaction old new
   pub free : is_used old.now.schema (table 0).name ≡ false
   pub grows : Grows table old.now new.now
-  pub just : (made : Table) → Has grows.keeps.more made → Has ((table 0).name ∷ codes "sqlite_sequence" ∷ []) made.name
+  pub just : (made : Table) → Has grows.keeps.first.more made → Has ((table 0).name ∷ codes "sqlite_sequence" ∷ []) made.name
+  pub others : AllByRecursion (IsBareAfter (next_tree old.now.schema)) grows.rest
 
 -- the table has no row, and its tree comes after this one
 pub record IsEmptyAfter (tree : ℕ) (table : ℕ → Table) (db : Database) : Type 0 where
@@ -47,7 +54,7 @@ pub record MakesFive (version : ℕ) (old new : State) : Type 0 where
   pub goes : ContinuesTransaction old new
   pub free : is_used old.now.schema (codes "event") ≡ false
   pub event : Grows event old.now new.now
-  pub just : (made : Table) → Has event.keeps.more made → Has (names_taken version) made.name
+  pub just : (made : Table) → Has event.keeps.first.more made → Has (names_taken version) made.name
   pub players : IsEmptyAfter (next_tree old.now.schema) (players_of version) new.now
   pub pairing : IsEmptyAfter (next_tree old.now.schema) pairing new.now
   pub bracket : IsEmptyAfter (next_tree old.now.schema) bracket new.now

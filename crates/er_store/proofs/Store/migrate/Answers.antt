@@ -10,6 +10,7 @@ returns-in-Ok g c = record {
   kept = λ clean. tt;
   taken = search rules;
   migrated = λ clean version may. c.in-Ok.ensures.migrated clean c.args.serial may;
+  beside = λ clean version may. c.in-Ok.ensures.beside clean c.args.serial may;
   acknowledged = λ version may. c.in-Ok.ensures.acknowledged c.args.serial may;
   crash = λ runs version may. c.in-Ok.ensures.crash c.args.serial may;
 }

@@ -1,18 +1,18 @@
 use Rattle.er_store.proofs.Prelude.{inl, rules, true, ◌≡◌, ℕ, on_ok_weaker, HasCleanDisk, state, sym}
 use Rattle.er_store.proofs.Prelude.{true≢false}
 use Rattle.er_store.proofs.{Lending.{on_ok_later, dropped, committed}, Crash.{was_clean, survives_both}}
-use Rattle.er_store.proofs.{Crash.{shows_leaves_in, leaves_old}, MovedCrash.{moved_written, moved_leaves}, Migrating.stands_old}
-use Rattle.er_store.specs.{Migrated.IsVersion1Alone, inside.Moving.IsMoved}
+use Rattle.er_store.proofs.{Crash.{shows_leaves_in, leaves_old}, MovedCrash.{moved_written, moved_beside, moved_leaves}}
+use Rattle.er_store.specs.{Migrated.CanMigrate, inside.Moving.IsMoved}
 use Rattle.er_store.proofs.migration.migrate_tables.Given as given
 use Rattle.er_store.proofs.migration.migrate_tables.Goals as goal
 
 -- the move went well, as it did where the commit is reached
 moved : (g : given.Over) (c : goal.After-conn-2-1 g) → HasCleanDisk (state g.S.Store c.commit.new.self.0) → (s : ℕ)
-    → IsVersion1Alone (state g.S.Store c.args.conn.now) c.args.event.now s
-    → IsMoved (state g.S.Store c.move_players.new.tx.conn.now) c.args.event.now s
+    → CanMigrate (state g.S.Store c.args.conn.now) c.args.event.now s
+    → IsMoved (state g.S.Store c.args.conn.now).now (state g.S.Store c.move_players.new.tx.conn.now) c.args.event.now s
 moved g c late s may =
     let moves = rw c.transaction-tx.ensures.begun at c.in_ok-move_players.ensures.moves in
-    moves s (record { alone = may.alone; represents = stands_old may.alone may.shows.represents })
+    moves s (record { represents = may.shows.represents; unawaited = may.unawaited })
     (was_clean c.commit.ensures.survives late)
 
 pub returns-clause-migrated : goal.returns-clause-migrated
@@ -21,6 +21,13 @@ returns-clause-migrated g c clean s may =
     let late = rw (← same) at clean in
     let it = moved g c late s may in
     rw (← same) (on_ok_weaker c.commit.result (λ done. moved_written it done.1) (c.commit.ensures.ok late))
+
+pub returns-clause-beside : goal.returns-clause-beside
+returns-clause-beside g c clean s may =
+    let same : c.commit.new.self.0 ≡ c.conn-2-1.given.0 = search rules in
+    let late = rw (← same) at clean in
+    let it = moved g c late s may in
+    rw (← same) (on_ok_weaker c.commit.result (λ done. moved_beside it done.1) (c.commit.ensures.ok late))
 
 pub returns-clause-acknowledged : goal.returns-clause-acknowledged
 returns-clause-acknowledged g c s may = on_ok_later _ _ c.commit.result (λ clean.
