@@ -19,7 +19,7 @@ use Rattle.er_desk.specs.{Asking.{Asks, GoesOnFrom, NextSessions}}
 use Rattle.er_desk.specs.{History.new_point, Opening.HoldsNothing}
 use Rattle.er_event.specs.{Sound.{IsSetUp}, Version.{IsVersion}}
 use Rattle.er_cli.specs.Clients.{Got}
-use Rattle.er_cli.specs.{Files.{MakesEvent, WorksOn}, Left.{IsClearedOf, ClosesFile, WasOpenedClean}, Next.{GoesTo, RecoversSession}}
+use Rattle.er_cli.specs.{Files.{MakesEvent, WorksOn}, Left.{IsClearedOf, ListsByNumber, PutsAway, WasOpenedClean}, Next.{GoesTo, RecoversSession}}
 use Rattle.er_cli.specs.World.{World}
 use Rattle.er_cli.specs.declared.left.{Left.Left, Left.TheVariants.Nothing}
 use Rattle.er_cli.proofs.Leaving.{put_such, put_clean, was_put, cleared_such, cleared_clean, cleared_unopened, cleared_sound, put_sound}
@@ -164,6 +164,7 @@ doubt_fault Represented old new question told represented runs answers stopped =
 pub record Goes {S : Type 0} (g : Ghosts S) (In : (was now : ℕ) → Type 0) (old : Desk S g) (session : Session) (new : Desk S g) : Type
     0 where
   pub clean : HasCleanDisk (state g new) → HasCleanDisk (state g old)
+  pub sure : IsFalse (desk_state new).needs_reopen → session.in_doubt ≡ None
   pub crash : HoldsOwnEvent g old → AfterCrash (state g new)
       (λ trees. (v : ℕ) × In (version_in old) v × IsStoredEnd (placed_at (point_of (desk_state old)) v) session trees)
 
@@ -173,7 +174,7 @@ Stays was now = now ≡ was
 pub goes_asking : {S : Type 0} (g : Ghosts S) (old : Desk S g) (session : Session) (new : Desk S g) → Asks g old session new
     → Goes g Stays old session new
 goes_asking g old session new it =
-    record { clean = it.clean; crash = λ shows clean trees may. (version_in old, refl, it.crash shows clean trees may) }
+    record { clean = it.clean; sure = it.sure; crash = λ shows clean trees may. (version_in old, refl, it.crash shows clean trees may) }
 
 -- tables of version 2 stay so
 still_second : (old new : DeskState) (moved : Result ℕ Refusal) → Migrates old moved new → old.version ≡ 2 → new.version ≡ 2
@@ -191,6 +192,7 @@ pub goes_moving : {S : Type 0} (g : Ghosts S) (old : Desk S g) (told : Told) (ne
     → Goes g (LeadsToVersion Migrate told) old no_session new
 goes_moving g old told new it may = record {
   clean = it.does.clean;
+  sure = λ runs. refl;
   crash = λ shows clean trees left.
       subst (λ (a : Told). (v : ℕ) × LeadsToVersion Migrate a (version_in old) v
       × IsStoredEnd (placed_at (point_of (desk_state old)) v) no_session trees) (sym it.tells)
@@ -286,12 +288,17 @@ module _ (new : Point) (first : Placed) (ends : List Ended) (begins : IsBeginnin
               (subst (λ (p : Placed). IsStoredEnd (placed_at p.point version) session trees) again.found ended),
         )
 
-    pub goes_to : (what : Left D d) → ClosesFile (state over_files last) what → GoesTo d (In first.version) new ends session what
+    pub goes_to : (what : Left D d) → PutsAway last what → GoesTo d (In first.version) new ends session what
     goes_to what put = record {
-      put_away = was_put (state over_files last) what put;
-      leaves = left_by (In first.version) new ends session begins what (put_sound (state over_files last) what put)
-          (put_such (BeginsIn (In first.version) new ends session) (state over_files last) what put leaves_next);
+      put_away = was_put (state over_files last) what put.closes;
+      leaves = left_by (In first.version) new ends session begins what (put_sound (state over_files last) what put.closes)
+          (put_such (BeginsIn (In first.version) new ends session) (state over_files last) what put.closes leaves_next);
+      spared = λ doubt. by_stop (desk_state last).needs_reopen refl doubt;
     }
+      where
+        by_stop : (b : Bool) → (desk_state last).needs_reopen ≡ b → (session.in_doubt ≡ None → ⊥) → ListsByNumber what
+        by_stop true stopped doubt = put.spared stopped
+        by_stop false runs doubt = absurd (doubt (asked.sure runs))
 
 -- ---- a new event
 
@@ -302,7 +309,7 @@ first_placed new old is = ap placed_of is
 pub made_begins : NextSessions → {D : Type 0} (d : disk.Ghosts D) (image : Image) (name : List ℕ) (rounds cut : ℕ)
     (desk : Desk (FileStore D d) over_files)
     → IsSetUp name rounds cut → HasMade image name rounds cut desk → Asks over_files desk no_session desk
-    → (what : Left D d) → ClosesFile (state over_files desk) what → HoldsNothing image
+    → (what : Left D d) → PutsAway desk what → HoldsNothing image
     → GoesTo d (λ version. version ≡ 2) (new_point name rounds cut) [] no_session what
 made_begins law d image name rounds cut desk set_up made asks what put nothing =
     let new = new_point name rounds cut in
@@ -358,26 +365,26 @@ module _ (law : NextSessions) (image : Image) (new : Point) (first : Placed) (en
         → IsFalse (desk_state desk).needs_reopen
         → AnswersDesk (HasCleanDisk (state over_files last) × HoldsOwnEvent over_files desk) (desk_state desk) question told
         (desk_state last)
-        → ClosesFile (state over_files last) what
+        → PutsAway last what
         → AnswersQuestion (WasOpenedClean what) first question told (work_of question told (desk_state last).needs_reopen)
     answers_question desk last question told found cleans runs answers put = record {
       needs_reopen = (desk_state last).needs_reopen;
       asked = refl;
-      lawful = put_clean _ (state over_files last) what put (λ clean.
+      lawful = put_clean _ (state over_files last) what put.closes (λ clean.
           let again = found.finds (cleans clean) in
           subst (λ (p : Placed). IsAnswerAt p.version p.point question told) again.found
           (answers.due (clean, again.shows) runs));
       acknowledged = λ command receipt is tells.
           one_work question command told (desk_state last).needs_reopen is
           ∙ ap Commands (kept_alone (desk_state desk) (desk_state last) question told answers.does command receipt is tells);
-      doubt = put_clean _ (state over_files last) what put (λ clean stopped.
+      doubt = put_clean _ (state over_files last) what put.closes (λ clean stopped.
           doubt_fault _ (desk_state desk) (desk_state last) question told (clean, (found.finds (cleans clean)).shows) runs answers
           stopped);
     }
 
     -- the half of the file
     goes_on_by : (desk last : Desk (FileStore D d) over_files) → IsFound d image first desk → (work : Work)
-        → WorksOn over_files desk work last → ClosesFile (state over_files last) what → GoesOnBy d image new ends first work what
+        → WorksOn over_files desk work last → PutsAway last what → GoesOnBy d image new ends first work what
     goes_on_by desk last found (Commands session) asked put =
         goes_to new first ends was.begins from d Stays desk last session found.finds (goes_asking _ _ _ _ asked) what put
     goes_on_by desk last found (Migration told) moved put = λ may.
@@ -406,7 +413,7 @@ module _ (law : NextSessions) (image : Image) (new : Point) (first : Placed) (en
       -- the half of what is told
       answers_task : (task : Task) (desk last : Desk (FileStore D d) over_files) → IsFalse (desk_state desk).needs_reopen
           → IsFound d image first desk → (HasCleanDisk (state over_files last) → HasCleanDisk (state over_files desk))
-          → ClosesFile (state over_files last) what → (work : Work)
+          → PutsAway last what → (work : Work)
           → DoesTask world got (HasCleanDisk (state over_files last) × HoldsOwnEvent over_files desk) (desk_state desk) task work (desk_state last) p
           → AnswersTask (WasOpenedClean what) first task work p
       answers_task (Ask question) desk last runs found cleans put work (told, answers, is, tells) = (
@@ -421,7 +428,7 @@ module _ (law : NextSessions) (image : Image) (new : Point) (first : Placed) (en
           (session, is, serves_only _ p port count (world.coming port) got (desk_state desk) session (desk_state last) did)
 
       pub task_goes_on : (task : Task) (desk last : Desk (FileStore D d) over_files) → IsFalse (desk_state desk).needs_reopen
-          → IsFound d image first desk → Does over_files world got desk task last p → ClosesFile (state over_files last) what
+          → IsFound d image first desk → Does over_files world got desk task last p → PutsAway last what
           → GoesOn d world image new ends first what p task
       task_goes_on task desk last runs found it put = inl (record {
         done = it.done;
@@ -466,10 +473,10 @@ module _ {D : Type 0} (d : disk.Ghosts D) (world : World) (file : List ℕ) (wha
     no_other : (name : List ℕ) (rounds cut : ℕ) (told : Told) → MakesEvent d (world.image file) name rounds cut told what
         → MakesNoOther d new ends first told what
     no_other name rounds cut told (inl (set_up, is, (desk, made, put, begins))) = record {
-      refused = λ opened. absurd (put_clean ⊥ (state over_files desk) what put (made.absent first was.left)
-          (opened (was_put (state over_files desk) what put)));
-      leaves = left_by (Stays first.version) new ends no_session was.begins what (put_sound (state over_files desk) what put)
-          (put_such (BeginsIn (Stays first.version) new ends no_session) (state over_files desk) what put
+      refused = λ opened. absurd (put_clean ⊥ (state over_files desk) what put.closes (made.absent first was.left)
+          (opened (was_put (state over_files desk) what put.closes)));
+      leaves = left_by (Stays first.version) new ends no_session was.begins what (put_sound (state over_files desk) what put.closes)
+          (put_such (BeginsIn (Stays first.version) new ends no_session) (state over_files desk) what put.closes
           (λ clean trees may. absurd (made.absent first was.left clean)));
     }
     no_other name rounds cut told (inr (inl (set_up, (why, is, none)))) =

@@ -186,7 +186,7 @@ module _ {D : Type 0} (d : disk.Ghosts D) (law : NextSessions) (files : Files D)
         leaves = over_next (VersionAfter questions (Ok them) first.version) new ends over.0 was.begins (state over_files it.last) now
             it.let_go
             (leaves_next new first ends was.begins from d (LeadToVersion questions them.items) desk it.last over.0 found.finds
-            (record { clean = over.1.went.clean; crash = over.1.went.crash may }));
+            (record { clean = over.1.went.clean; sure = over.1.went.sure; crash = over.1.went.crash may }));
         unopened = over_put (state over_files it.last) now it.let_go;
       }
   ran_holds join desk runs found questions move (Err why) now it =

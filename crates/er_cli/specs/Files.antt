@@ -25,7 +25,7 @@ use Rattle.er_desk.specs.Run.{no_session}
 use Rattle.er_answers.specs.Answers.{MovesFile}
 use Rattle.er_answers.specs.declared.question.Told.{Told}
 use Rattle.er_answers.specs.declared.question.Told.TheVariants.{Accepted, Refused}
-use Rattle.er_cli.specs.Left.{IfUnopened, ClosesFile, RecoversSuch, WasOpenedClean}
+use Rattle.er_cli.specs.Left.{IfUnopened, PutsAway, RecoversSuch, WasOpenedClean}
 use Rattle.er_cli.specs.Next.{GoesTo, RecoversSession}
 use Rattle.er_cli.specs.Tasks.{Work}
 use Rattle.er_cli.specs.Tasks.Work.{Commands, Migration}
@@ -70,7 +70,7 @@ pub record HasMadeNone {D : Type 0} {g : disk.Ghosts D} (image : Image) (new : P
 abbrev pub MakesEvent : {D : Type 0} (g : disk.Ghosts D) → Image → List ℕ → ℕ → ℕ → Told → Left D g → Type 0
 MakesEvent {D} g image name rounds cut told what =
     (IsSetUp name rounds cut × (told ≡ Accepted (receipt 0))
-    × ((desk : Desk (FileStore D g) over_files) × HasMade image name rounds cut desk × ClosesFile (state over_files desk) what
+    × ((desk : Desk (FileStore D g) over_files) × HasMade image name rounds cut desk × PutsAway desk what
     × (HoldsNothing image → GoesTo g (λ version. version ≡ 2) (new_point name rounds cut) [] no_session what)))
     ⊎ (IsSetUp name rounds cut
     × ((why : Refusal) × (told ≡ Refused why) × HasMadeNone image (new_point name rounds cut) why what))

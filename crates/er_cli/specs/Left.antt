@@ -3,7 +3,7 @@
 -- A disk is clean while no wrong answer of it was taken as true. The storage crate has three words for it: `HasCleanDisk` of a desk's connection,
 -- `IsClean` of the view of a store, and `AreClean` of two files. Each leads from the later of them back to the earlier: from the files that are
 -- left, or the store, to the desk that was asked (`ClosesFile`).
-use Rattle.std.specs.Prelude.{◌≡◌, Option, Some, None}
+use Rattle.std.specs.Prelude.{◌≡◌, Option, Some, None, IsTrue}
 use Rattle.sqlite_disk.specs.declared.Disk as disk
 use Rattle.sqlite_disk.specs.declared.Files.{Files}
 use Rattle.sqlite_wal.specs.Recovery.{Image}
@@ -16,13 +16,15 @@ use Rattle.sqlite.specs.Tree.{Trees}
 use Rattle.sqlite.specs.State.{State, HasCleanDisk}
 use Rattle.sqlite.specs.Held.{AreDatabases}
 use Rattle.sqlite.specs.Closing.{HoldsAlone}
-use Rattle.sqlite.specs.Files.{image_of, file_state}
+use Rattle.sqlite.specs.Files.{image_of, file_state, over_files}
 use Rattle.sqlite.specs.declared.error.Error.{Error}
 use Rattle.sqlite.specs.declared.file.Leftover.{Leftover}
 use Rattle.er_event.specs.declared.refusals.Refusal.{Refusal}
 use Rattle.er_store.specs.Fault.{IsFault, store_refusal}
+use Rattle.er_desk.specs.declared.desk.Desk.{Desk}
 use Rattle.er_desk.specs.declared.opening.OpenFault.{OpenFault}
 use Rattle.er_desk.specs.declared.opening.OpenFault.TheVariants as fault
+use Rattle.er_desk.specs.Desk.{desk_state, state}
 use Rattle.er_cli.specs.declared.left.Left.{Left}
 use Rattle.er_cli.specs.declared.left.Left.TheVariants as left
 
@@ -76,6 +78,16 @@ module _ {D : Type 0} {d : disk.Ghosts D} where
   ClosesFile s (left.Closed files) = AreClean d files.log files.db → HasCleanDisk s × HoldSuch d s.may_leave files
   ClosesFile s (left.Unclosed store) = KeepsAll s store
   ClosesFile s (left.Unopened rest) = ⊥
+
+  -- a store that was not closed lists its tables by number
+  abbrev pub ListsByNumber : Left D d → Type 0
+  ListsByNumber (left.Unclosed store) = IsClean (view store) → IsTrue (view store).is_numbered
+  ListsByNumber what = Unit {0}
+
+  -- The desk's file was closed, or could not be. After a fault of the store its log isn't copied.
+  pub record PutsAway (desk : Desk (FileStore D d) over_files) (what : Left D d) : Type 0 where
+    pub closes : ClosesFile (state over_files desk) what
+    pub spared : IsTrue (desk_state desk).needs_reopen → ListsByNumber what
 
   -- What is left of an opening that was refused: its file, put away. Of files that were not opened, what is left comes back as it is.
   abbrev pub IsClearedOf : OpenFault D d → Left D d → Type 0

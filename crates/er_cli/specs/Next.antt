@@ -1,5 +1,5 @@
 -- What a command line leaves of a history in the file that it gives back: the next command line finds it.
-use Rattle.std.specs.Prelude.{ℕ, IsTrue, List, []}
+use Rattle.std.specs.Prelude.{◌≡◌, ℕ, IsTrue, List, [], None}
 use Rattle.sqlite_disk.specs.declared.Disk as disk
 use Rattle.sqlite_disk.specs.declared.Files.{Files}
 use Rattle.sqlite_wal.specs.Recovery.{Image}
@@ -14,6 +14,7 @@ use Rattle.er_desk.specs.Desk.{Point, Placed}
 use Rattle.er_desk.specs.Run.{Session}
 use Rattle.er_desk.specs.History.{Ended}
 use Rattle.er_desk.specs.Headline.{NextBegins, RecoversHistory, and_then}
+use Rattle.er_cli.specs.Left.{ListsByNumber}
 use Rattle.er_cli.specs.declared.left.Left.{Left}
 use Rattle.er_cli.specs.declared.left.Left.TheVariants as left
 
@@ -35,7 +36,7 @@ RecoversIn In new ends session image =
 
 -- The files of a store that was not closed. Each thing that an opening after a crash may find there is an end of the history with this
 -- session, and the next one begins there. The same of the bytes that a crash may leave, if the store lists its tables by number: each does that this
--- program opens, and the storage crate says so of all but one that broke while its log was copied.
+-- program opens, until copying its log has failed.
 pub record KeepsNext {D : Type 0} (d : disk.Ghosts D) (In : ℕ → Type 0) (new : Point) (ends : List Ended) (session : Session)
     (store : FileStore D d) : Type 0 where
   pub begins : (trees : Trees) → recovers store trees → (version : ℕ) × In version × NextBegins new ends session version trees
@@ -63,3 +64,5 @@ pub record GoesTo {D : Type 0} (d : disk.Ghosts D) (In : ℕ → Type 0) (new : 
     : Type 0 where
   pub put_away : WasOpened what
   pub leaves : RecoversSession d In new ends session what
+  -- where a command is in doubt, nothing tried to copy the log after it
+  pub spared : (session.in_doubt ≡ None → ⊥) → ListsByNumber what

@@ -24,7 +24,7 @@ use Rattle.er_cli.specs.Clients.{Got}
 use Rattle.er_cli.specs.Complaints.{EndsAsUsage}
 use Rattle.er_cli.specs.Files.{IsNotOpened, IsNotThere, MakesEvent, WorksOn}
 use Rattle.er_cli.specs.GoingOn.{GoesOnBy, MakesNoOther, StaysUnopened}
-use Rattle.er_cli.specs.Left.{ClosesFile, WasOpenedClean}
+use Rattle.er_cli.specs.Left.{PutsAway, WasOpenedClean}
 use Rattle.er_cli.specs.Tasks.{Work, AnswersTask, DoesTask}
 use Rattle.er_cli.specs.World.{World}
 use Rattle.er_cli.specs.declared.left.Left.{Left}
@@ -52,7 +52,7 @@ module _ {D : Type 0} (g : disk.Ghosts D) (world : World) (got : Option (List Go
   EndsLine (Open task) =
       ((world.is_there file ≢ Some false) × (desk : Desk (FileStore D g) over_files) × (last : Desk (FileStore D g) over_files)
       × HasOpened (world.image file) desk
-      × Does over_files world got desk task last p × ClosesFile (state over_files last) what)
+      × Does over_files world got desk task last p × PutsAway last what)
       ⊎ TellsAndLeaves (λ (why : Refusal). Tells (Refused why) p)
       (λ (why : Refusal). IsNotThere (world.is_there file) why what
       ⊎ ((world.is_there file ≢ Some false) × IsNotOpened (world.image file) why what))

@@ -2,10 +2,9 @@ ghost use Rattle.std.specs.Prelude.{◌≡◌, ◌<◌, ◌↔◌, IsTrue, IfErr
 ghost use Rattle.sqlite_disk.specs.Disk.{Cut, Follows};
 ghost use Rattle.sqlite_wal.specs.Reads.{IsClean};
 ghost use Rattle.sqlite_store.specs.FileStore.{state as store_state};
-ghost use Rattle.sqlite.specs.Files.{file_state, over_files, IsClosed};
-ghost use Rattle.er_desk.specs.Desk.{state};
+ghost use Rattle.sqlite.specs.Files.{file_state, IsClosed};
 ghost use Rattle.er_desk.specs.Opening.{why_of};
-ghost use Rattle.er_cli.specs.Left.{IsClearedOf, ClosesFile};
+ghost use Rattle.er_cli.specs.Left.{IsClearedOf, ClosesFile, ListsByNumber, PutsAway};
 ghost use Rattle.er_cli.specs.inside.Closing.{CopiesLog};
 ghost use Rattle.sqlite_store.specs.FileStore.{view, faults, recovers, is_shielded};
 ghost use Rattle.sqlite_trees.specs.View.{IsQuiet, IsClean as IsSure, IsRolledBack as IsUndone};
@@ -85,17 +84,20 @@ pub fn close<D: Disk + Drop>(conn: Connection<FileStore<D>>) -> Left<D>
 
 /// Takes the files of a connection as they are, and writes nothing.
 pub fn take<D: Disk + Drop>(conn: Connection<FileStore<D>>) -> Left<D>
-    ensures { ClosesFile (file_state conn) result }
+    ensures taken { ClosesFile (file_state conn) result }
+    ensures numbered { ListsByNumber result }
 {
     Left::Unclosed(into_store(conn))
 }
 
-/// Closes the desk of a file at the end of a run, and gives back what is left of the file.
+/// Closes the desk of a file at the end of a run, and gives back what is left of the file. After a fault of the store its log is left for
+/// the next opening, which finds in it what a stop would have left.
 pub fn put_away<D: Disk + Drop>(desk: Desk<FileStore<D>>) -> Left<D>
-    ensures { ClosesFile (state over_files desk) result }
+    ensures { PutsAway desk result }
 {
+    let is_over = desk.needs_reopen();
     let conn = into_connection(desk);
-    close(conn)
+    if is_over { take(conn) } else { close(conn) }
 }
 
 /// Where the log of a file lies: beside what a link leads to.

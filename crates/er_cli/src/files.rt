@@ -12,7 +12,7 @@ ghost use Rattle.er_desk.specs.Reply.{receipt};
 ghost use Rattle.er_cli.specs.declared.action.Action.TheVariants.{Init, Open};
 ghost use Rattle.er_cli.specs.Action.{action_of, file_of};
 ghost use Rattle.er_store.specs.Fault.{IsFault};
-ghost use Rattle.er_cli.specs.Left.{ClosesFile};
+ghost use Rattle.er_cli.specs.Left.{PutsAway};
 ghost use Rattle.er_desk.specs.Files.{HasMade};
 ghost use Rattle.er_cli.specs.Files.{HasMadeNone};
 ghost use Rattle.er_cli.specs.Serving.{ServesClients};
@@ -107,7 +107,7 @@ fn print_made<D: Disk + Drop, O: Print, E: Print>(
     out: &mut O,
     err: &mut E,
 ) -> Ran<D>
-    ensures put_away { ClosesFile (state over_files desk) result.left }
+    ensures put_away { PutsAway desk result.left }
     ensures asks { Asks over_files desk no_session desk }
     ensures told { Tells (Told.Accepted (receipt 0))
         (prints (O.printed out.old) (O.printed out.new)
@@ -213,7 +213,7 @@ fn do_and_close<H: Host, O: Print, E: Print>(
     requires ready { IsFalse (desk_state desk).needs_reopen }
     ensures { (last : _) × Does over_files (H.world host.old) (H.got host.new) desk task last (prints (O.printed out.old)
         (O.printed out.new) (E.printed err.old) (E.printed err.new) result.status)
-        × ClosesFile (state over_files last) result.left }
+        × PutsAway last result.left }
 {
     let status = do_task(alloc, host, &mut desk, task, out, err);
     Ran {
