@@ -16,7 +16,7 @@ use Rattle.er_desk.specs.{Reply.{Reply, receipt}, Run.{Session, IsStoredEnd, no_
 use Rattle.er_desk.specs.{Files.HasMade, Headline.{FindsAgain, IsBeginning, RecoversHistory}, Migrating.{MayMigrate, Migrates, MovesDesk}}
 use Rattle.sqlite_trees.specs.declared.store.Store.{Ghosts}
 use Rattle.er_desk.specs.{Asking.{Asks, GoesOnFrom, NextSessions}}
-use Rattle.er_desk.specs.{History.new_point, Opening.HoldsNothing}
+use Rattle.er_desk.specs.{History.new_point, Opening.NoneAwaitsIn}
 use Rattle.er_event.specs.{Sound.{IsSetUp}, Version.{IsVersion}}
 use Rattle.er_cli.specs.Clients.{Got}
 use Rattle.er_cli.specs.{Files.{MakesEvent, WorksOn}, Left.{IsClearedOf, ListsByNumber, PutsAway, WasOpenedClean}, Next.{GoesTo, RecoversSession}}
@@ -305,20 +305,20 @@ module _ (new : Point) (first : Placed) (ends : List Ended) (begins : IsBeginnin
 first_placed : (new : Point) (old : DeskState) → old ≡ running_at new 2 → placed_of old ≡ placed_at new 2
 first_placed new old is = ap placed_of is
 
--- where an event was made in a file that held nothing, its empty history begins
+-- where an event was made in a file in which no foreign key waited for its tables, its empty history begins
 pub made_begins : NextSessions → {D : Type 0} (d : disk.Ghosts D) (image : Image) (name : List ℕ) (rounds cut : ℕ)
     (desk : Desk (FileStore D d) over_files)
     → IsSetUp name rounds cut → HasMade image name rounds cut desk → Asks over_files desk no_session desk
-    → (what : Left D d) → PutsAway desk what → HoldsNothing image
+    → (what : Left D d) → PutsAway desk what → NoneAwaitsIn image
     → GoesTo d (λ version. version ≡ 2) (new_point name rounds cut) [] no_session what
-made_begins law d image name rounds cut desk set_up made asks what put nothing =
+made_begins law d image name rounds cut desk set_up made asks what put awaits =
     let new = new_point name rounds cut in
     let begins : IsBeginning new = record { name = name; limits = (rounds, cut); is_new = refl; set_up = set_up } in
     goes_to new (placed_at new 2) [] begins (law new new [] begins refl) d Stays desk desk no_session
     (λ clean. record {
       found = first_placed new (desk_state desk) made.made;
-      shows = made.created nothing clean;
-      leaves = made.acknowledged nothing;
+      shows = made.created awaits clean;
+      leaves = made.acknowledged awaits;
     })
     (goes_asking _ _ _ _ asks) what put
 

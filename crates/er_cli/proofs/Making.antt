@@ -14,11 +14,11 @@ use Rattle.er_desk.specs.{declared.desk.Desk.Desk, Files.HasMade, History.{Ended
 use Rattle.er_desk.specs.{Asking.NextSessions, Headline.{Recovers, RecoversHistory}}
 use Rattle.er_answers.specs.declared.question.Told.TheVariants.{Refused}
 use Rattle.std.proofs.Common.{◌⊎◌}
-use Rattle.sqlite.specs.{Tree.Trees, Effect.{Database, IsDatabase}, State.HasCleanDisk, Files.{HoldsDatabase, file_state}}
+use Rattle.sqlite.specs.{Tree.Trees, Effect.{Database, IsDatabase}, State.HasCleanDisk, Files.{AreFoundIn, HoldsDatabase, file_state}}
 use Rattle.er_store.specs.{Fault.IsFault, Beside.IsStoredBeside, Representing.{Either, IsStoredIn, AfterCrash}}
 use Rattle.er_desk.specs.declared.opening.{OpenFault.OpenFault, OpenFault.TheVariants.Unopened as NotOpened}
 use Rattle.er_desk.specs.declared.opening.OpenFault.TheVariants.{Refused as OpenedInVain}
-use Rattle.er_desk.specs.{Desk.{Point, Placed, IsStoredAt}, Opening.{HasAnEvent, HoldsNothing, RecoversBeside, ListsNothing, OnRefused, OnUnopened, SparesAt, WhereUnopened, why_of}}
+use Rattle.er_desk.specs.{Desk.{Point, Placed, IsStoredAt}, Opening.{HasAnEvent, NoneAwaitsIn, RecoversBeside, OnRefused, OnUnopened, SparesAt, WhereUnopened, why_of}}
 use Rattle.er_cli.specs.declared.left.{Left.Left, Left.TheVariants.Nothing, NoDesk.NoDesk}
 use Rattle.er_cli.specs.{Left.{IsClearedOf, RecoversSuch}, Files.{HasMadeNone, MakesEvent}}
 use Rattle.er_cli.proofs.Leaving.{BeginsIn, cleared_such, cleared_clean, cleared_sound, cleared_unopened, left_by}
@@ -107,8 +107,8 @@ module _ {D : Type 0} {g : disk.Ghosts D} where
       → (why_of fault ≡ EventExists → OnRefused fault (λ conn. HasCleanDisk (file_state conn)
       → (db : Database) × HasAnEvent image db × AfterCrash (file_state conn) (λ trees. trees ≡ db.trees)))
       → ((placed : Placed) → Recovers image placed → OnRefused fault (λ conn. AfterCrash (file_state conn) (IsStoredAt placed)))
-      → (HoldsNothing image
-      → OnRefused fault (λ conn. AfterCrash (file_state conn) (Either ListsNothing (IsStoredIn 2 new.event new.serial))))
+      → (NoneAwaitsIn image
+      → OnRefused fault (λ conn. AfterCrash (file_state conn) (Either (AreFoundIn image) (IsStoredIn 2 new.event new.serial))))
       → ((db : Trees) → HoldsDatabase image db → OnRefused fault (λ conn. HasCleanDisk (file_state conn)
       → RecoversBeside new db (file_state conn)))
       → OnUnopened fault (SparesAt image) → HasMadeNone image new why what
@@ -120,6 +120,6 @@ module _ {D : Type 0} {g : disk.Ghosts D} where
         (cleared_sound fault what is)
         (cleared_such (BeginsIn (λ version. version ≡ last.version) first ends no_session) fault what is
         (found_again law image first ends last was fault (stays last was.left)));
-    leaves = λ nothing. cleared_such (Either ListsNothing (IsStoredIn 2 new.event new.serial)) fault what is (leaves nothing);
+    leaves = λ awaits. cleared_such (Either (AreFoundIn image) (IsStoredIn 2 new.event new.serial)) fault what is (leaves awaits);
     beside = λ db holds. cleared_clean (LeavesBeside new db what) fault what is (beside new db fault what is (over db holds));
   }

@@ -18,7 +18,7 @@ use Rattle.er_desk.specs.Asking.{Asks}
 use Rattle.er_desk.specs.Desk.{Point, Placed, state}
 use Rattle.er_desk.specs.Files.{HasMade}
 use Rattle.er_desk.specs.Headline.{RecoversHistory}
-use Rattle.er_desk.specs.Opening.{HasAnEvent, HoldsNothing, ListsNothing, NamesFirstFault, SparesAt}
+use Rattle.er_desk.specs.Opening.{HasAnEvent, NoneAwaitsIn, NamesFirstFault, SparesAt}
 use Rattle.er_desk.specs.History.{Ended, new_point}
 use Rattle.er_desk.specs.Reply.{receipt}
 use Rattle.er_desk.specs.Run.{no_session}
@@ -49,8 +49,8 @@ abbrev pub WorksOn : {S : Type 0} (g : Ghosts S) → Desk S g → Work → Desk 
 WorksOn g old (Commands session) new = Asks g old session new
 WorksOn g old (Migration told) new = MovesFile g old told new
 
--- No event was made: the file has one, or memory or the store fails. Of a file that held nothing, nothing is left then, or that event
--- whole; of any other what it held, alone or with the event's tables beside it; and of one that a history left just that.
+-- No event was made: the file has one, or memory or the store fails. What the file held is left then, alone or with the event's tables
+-- beside it, or, where no foreign key waited for one of them, that event whole; and of a file that a history left just that.
 pub record HasMadeNone {D : Type 0} {g : disk.Ghosts D} (image : Image) (new : Point) (why : Refusal) (what : Left D g)
     : Type 0 where
   pub cause : (why ≡ EventExists) ⊎ IsFault why
@@ -60,18 +60,18 @@ pub record HasMadeNone {D : Type 0} {g : disk.Ghosts D} (image : Image) (new : P
       → (db : Database) × HasAnEvent image db × RecoversSuch (λ trees. trees ≡ db.trees) what
   pub stays : (first : Point) (ends : List Ended) (last : Placed) → RecoversHistory image first ends last
       → RecoversSession g (λ version. version ≡ last.version) first ends no_session what
-  pub leaves : HoldsNothing image → RecoversSuch (Either ListsNothing (IsStoredIn 2 new.event new.serial)) what
+  pub leaves : NoneAwaitsIn image → RecoversSuch (Either (AreFoundIn image) (IsStoredIn 2 new.event new.serial)) what
   pub beside : (db : Trees) → HoldsDatabase image db → WasOpenedClean what
       → (old : Database) × (old.trees ≡ db) × IsDatabase old
       × RecoversSuch (Either (λ trees. trees ≡ db) (IsStoredBeside 2 new.event old)) what
 
--- An event was made, and its file put away: in a file that held nothing this begins the empty history, with which the next command line
--- goes on. Or it was not. What may not be set up so is refused before any file is touched.
+-- An event was made, and its file put away: where no foreign key waited for its tables this begins the empty history, with which the next
+-- command line goes on. Or it was not. What may not be set up so is refused before any file is touched.
 abbrev pub MakesEvent : {D : Type 0} (g : disk.Ghosts D) → Image → List ℕ → ℕ → ℕ → Told → Left D g → Type 0
 MakesEvent {D} g image name rounds cut told what =
     (IsSetUp name rounds cut × (told ≡ Accepted (receipt 0))
     × ((desk : Desk (FileStore D g) over_files) × HasMade image name rounds cut desk × PutsAway desk what
-    × (HoldsNothing image → GoesTo g (λ version. version ≡ 2) (new_point name rounds cut) [] no_session what)))
+    × (NoneAwaitsIn image → GoesTo g (λ version. version ≡ 2) (new_point name rounds cut) [] no_session what)))
     ⊎ (IsSetUp name rounds cut
     × ((why : Refusal) × (told ≡ Refused why) × HasMadeNone image (new_point name rounds cut) why what))
     ⊎ ((IsSetUp name rounds cut → ⊥) × (told ≡ Refused BadSetup) × (what ≡ Nothing))

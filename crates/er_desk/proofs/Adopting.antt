@@ -16,7 +16,7 @@ use Rattle.sqlite.specs.declared.error.Error.{Error}
 use Rattle.er_store.specs.Fault.{IsFault, store_refusal}
 use Rattle.sqlite_trees.specs.Props.{Trees-set}
 use Rattle.sqlite.specs.{Tree.Trees, Effect.{Database, IsDatabase}, State.{State, Opens, IsLive, HasCleanDisk, IsUnchanged}, Start.FindsIn}
-use Rattle.sqlite.specs.{Files.HoldsDatabase, Held.{Held, state}}
+use Rattle.sqlite.specs.{Files.{AreFoundIn, HoldsDatabase}, Held.{Held, state}}
 use Rattle.sqlite_wal.specs.Recovery.{Image}
 use Rattle.er_event.specs.{Event.EventValue, declared.events.parts.Parts.Parts, declared.refusals.Place.Place}
 use Rattle.er_event.specs.declared.refusals.Refusal.TheVariants.{Memory, NoEvent, Damaged}
@@ -24,7 +24,8 @@ use Rattle.er_store.specs.{Damage.ReadsParts, Reading.KeepsTables}
 use Rattle.er_store.specs.{Representing.{RepresentsIn, IsStoredIn, RepresentsNow, AfterCrash, ReadsEvent}}
 use Rattle.er_store.specs.declared.Store.{Store}
 use Rattle.er_desk.specs.{Desk.{Placed, IsStoredAt}, Headline.{IsEmptyFile, Recovers}}
-use Rattle.er_desk.specs.Opening.{HoldsNothing, ChangesNothing, NamesFirstFault}
+use Rattle.er_desk.specs.Opening.{HoldsNothing, NoneAwaitsIn, NewFilesAwaitNone, ChangesNothing, NamesFirstFault}
+use Rattle.er_store.specs.Beside.{NoneAwaitsFive}
 use Rattle.er_desk.proofs.Turns.{unchanged_keeps}
 use Rattle.er_store.specs.Store as tables
 
@@ -121,10 +122,19 @@ unlisted db sound none =
         → (let s : Schema = record { tables = ts; indexes = is; views = vs } in s) ≡ no_schema
     same_schema ts is vs tables indexes views = rw (tables, indexes, views) refl
 
-module _ (s : State) (image : Image) (opened : Opens s × IsLive s) (found : FindsIn image s) (nothing : HoldsNothing image) where
-  pub opened_empty : IsEmptyFile s
-  opened_empty = unlisted s.now (opened.1 opened.0.is_open).0 (ap (λ (d : Database). d.trees catalog_tree) opened.0.clean
+module _ (s : State) (image : Image) (opened : Opens s × IsLive s) (found : FindsIn image s) where
+  pub opened_empty : HoldsNothing image → IsEmptyFile s
+  opened_empty nothing = unlisted s.now (opened.1 opened.0.is_open).0 (ap (λ (d : Database). d.trees catalog_tree) opened.0.clean
       ∙ nothing s.committed.trees found.reads)
+
+  -- nothing waits in it for the event's tables
+  pub opened_awaits : NoneAwaitsIn image → NoneAwaitsFive 2 s.now.schema
+  opened_awaits none = none s.now (opened.1 opened.0.is_open).0
+      (subst (λ (d : Database). AreFoundIn image d.trees) (sym opened.0.clean) found.reads)
+
+pub new_awaits : NewFilesAwaitNone
+new_awaits image nothing db sound found =
+    subst (NoneAwaitsFive 2) (sym (unlisted db sound (nothing db.trees found))) (tt, (tt, (tt, (tt, (tt, tt)))))
 
 -- ---- files that were not opened
 

@@ -3,9 +3,8 @@ use Rattle.std.proofs.Common.{inl, inr, sym, subst, ap, ◌∙◌, ◌≡◌, �
 use Rattle.sqlite_disk.specs.declared.Disk.{Ghosts}
 use Rattle.sqlite_disk.specs.declared.Files.{Files}
 use Rattle.sqlite_store.specs.declared.store.FileStore.{FileStore}
-use Rattle.sqlite_trees.specs.Objects.{catalog_tree}
 use Rattle.sqlite_wal.specs.Recovery.{Image}
-use Rattle.sqlite.specs.{Effect.{Database, IsDatabase}, Tree.Trees, State.{Opens, IsLive, HasCleanDisk}, Start.FindsIn, Held.Held}
+use Rattle.sqlite.specs.{Effect.{Database, IsDatabase}, State.{Opens, IsLive, HasCleanDisk}, Start.FindsIn, Held.Held}
 use Rattle.sqlite.specs.Files.{AreFoundIn, FailsToOpenFiles, IsCleanLeft, LeavesFiles, file_state, image_of, over_files}
 use Rattle.sqlite.specs.declared.{error.Error.Error, error.Error.TheVariants.SqliteFailure, file.Leftover.Leftover}
 use Rattle.sqlite.specs.declared.error.ErrorCode.TheVariants.{CannotOpen, DatabaseBusy, OutOfMemory}
@@ -19,7 +18,7 @@ use Rattle.er_desk.specs.declared.opening.OpenFault.TheVariants.{Unopened, Refus
 use Rattle.er_desk.specs.Begins.{HasAdopted, HasNotAdopted, HasCreated, HasNotCreated}
 use Rattle.er_desk.specs.{Desk.{Placed, IsStoredAt, state, version_in}, Headline.Recovers, Files.{HasOpened, HasNotOpened, OpensFile, HasMade, HasNotMade, MakesFile}}
 use Rattle.er_desk.specs.Opening.{FromOpened, OpensImage, SparesAt}
-use Rattle.er_desk.proofs.Adopting.{is_fault, opened_represents, opened_empty, sees_unchanged, sees_kept}
+use Rattle.er_desk.proofs.Adopting.{is_fault, opened_represents, opened_empty, opened_awaits, sees_unchanged, sees_kept}
 
 module _ {D : Type 0} {g : Ghosts D} (image : Image) where
   -- what the storage crate says of a connection to files that it opened
@@ -90,12 +89,12 @@ module _ {D : Type 0} {g : Ghosts D} (image : Image) where
         alone = λ nothing clean.
             let early = it.clean clean in
             it.alone clean (opened_empty (file_state conn) image (opened early) (found early) nothing);
-        created = λ nothing clean.
+        created = λ awaits clean.
             let early = it.clean clean in
-            it.created clean (opened_empty (file_state conn) image (opened early) (found early) nothing);
-        acknowledged = λ nothing clean.
+            it.created clean (opened_awaits (file_state conn) image (opened early) (found early) awaits);
+        acknowledged = λ awaits clean.
             let early = it.clean clean in
-            it.acknowledged (opened_empty (file_state conn) image (opened early) (found early) nothing) clean;
+            it.acknowledged (opened_awaits (file_state conn) image (opened early) (found early) awaits) clean;
         beside = λ db holds clean.
             let early = it.clean clean in
             let live = opened early in
@@ -137,12 +136,12 @@ module _ {D : Type 0} {g : Ghosts D} (image : Image) where
             let same : trees ≡ was.0 = it.left.still (has_event early placed was) live.0.is_open clean trees may
             ∙ ∥∥₁_elim was.1 (Trees-set _ _) (λ holds. (found early).holds was.0 holds) in
             subst (IsStoredAt placed) (sym same) was.2;
-        crash = λ nothing clean trees may.
+        crash = λ awaits clean trees may.
             let early = it.clean clean in
             let live = opened early in
             let seen = found early in
-            elim (it.left.left (opened_empty (file_state conn) image live seen nothing) live.0.is_open clean trees may) [
-              | inl was ↦ inl (ap (λ (db : Trees). db catalog_tree) was ∙ nothing _ seen.reads)
+            elim (it.left.left (opened_awaits (file_state conn) image live seen awaits) live.0.is_open clean trees may) [
+              | inl was ↦ inl (subst (AreFoundIn image) (sym was) seen.reads)
               | inr made ↦ inr made
             ];
         beside_crash = λ db holds clean.
@@ -179,7 +178,7 @@ module _ {D : Type 0} {g : Ghosts D} (image : Image) where
     spared = spared;
     exists = λ is. tt;
     spares = λ placed was. tt;
-    crash = λ nothing. tt;
+    crash = λ awaits. tt;
     beside_crash = λ db holds. tt;
   }
 

@@ -12,7 +12,7 @@ use Rattle.er_event.specs.declared.refusals.Refusal.{Refusal}
 use Rattle.er_event.specs.declared.refusals.Refusal.TheVariants.{BadSetup, EventExists, NoEvent, Damaged}
 use Rattle.er_rules.specs.Sound.{IsSound, HasSeeds}
 use Rattle.er_store.specs.Begins.{alone_schema}
-use Rattle.er_store.specs.Beside.{HoldsBeside}
+use Rattle.er_store.specs.Beside.{HoldsBeside, NoneAwaitsFive}
 use Rattle.er_store.specs.Fault.{IsFault, IsLoadFault}
 use Rattle.er_store.specs.Loading.{HoldsEvent}
 use Rattle.er_store.specs.Representing.{HasTables, AreKeyed, Represents, RepresentsIn, CanRead}
@@ -33,10 +33,11 @@ pub record HasCreated {S : Type 0} (g : Ghosts S) (name : List ℕ) (rounds cut 
   -- there beside it, after a crash too
   pub absent : HasCleanDisk (state g desk) → CanRead old.now.schema → ⊥
   pub beside : HasCleanDisk (state g desk) → HoldsBeside 2 (initial_event name rounds cut) old.now (state g desk)
-  -- in an empty file they then stand alone and represent the new event, and so does each thing that a crash may leave
+  -- in an empty file they stand alone
   pub alone : HasCleanDisk (state g desk) → IsEmptyFile old → (state g desk).now.schema ≡ alone_schema 2
-  pub created : HasCleanDisk (state g desk) → IsEmptyFile old → HoldsOwnEvent g desk
-  pub acknowledged : IsEmptyFile old → RecoversJust (state g desk) (placed_at (new_point name rounds cut) 2)
+  -- where no foreign key waited for one of them they represent the new event, and so does each thing that a crash may leave
+  pub created : HasCleanDisk (state g desk) → NoneAwaitsFive 2 old.now.schema → HoldsOwnEvent g desk
+  pub acknowledged : NoneAwaitsFive 2 old.now.schema → RecoversJust (state g desk) (placed_at (new_point name rounds cut) 2)
 
 -- It was not, and the connection comes back.
 pub record HasNotCreated {S : Type 0} (g : Ghosts S) (name : List ℕ) (rounds cut : ℕ) (conn : Held S) (back : Held S × Refusal)

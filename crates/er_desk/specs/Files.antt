@@ -1,6 +1,6 @@
 -- How the file of an event is opened, or made.
 use Rattle.std.specs.Prelude.{◌≡◌, ◌⊎◌, ◌≤◌, ℕ, List, Result, MatchResult, IsFalse}
-use Rattle.sqlite.specs.Files.{HoldsDatabase, over_files, file_state}
+use Rattle.sqlite.specs.Files.{AreFoundIn, HoldsDatabase, over_files, file_state}
 use Rattle.sqlite.specs.State.{HasCleanDisk}
 use Rattle.sqlite.specs.Effect.{Database}
 use Rattle.sqlite.specs.Tree.{Trees}
@@ -19,7 +19,7 @@ use Rattle.er_desk.specs.declared.opening.OpenFault.{OpenFault}
 use Rattle.er_desk.specs.Desk.{Placed, HoldsOwnEvent, IsStoredAt, placed_at, running_at, state, desk_state, version_in}
 use Rattle.er_desk.specs.Headline.{Recovers, FindsAgain, RecoversJust, RepeatsNobody}
 use Rattle.er_desk.specs.History.{new_point}
-use Rattle.er_desk.specs.Opening.{HasAnEvent, HoldsNothing, ListsNothing, MakesOver, RecoversBeside, HoldsStill, NamesFirstFaultIn, why_of}
+use Rattle.er_desk.specs.Opening.{HasAnEvent, HoldsNothing, NoneAwaitsIn, MakesOver, RecoversBeside, HoldsStill, NamesFirstFaultIn, why_of}
 use Rattle.er_desk.specs.Opening.{OnRefused, OnUnopened, SparesAt, WhereUnopened, IsCleanFault}
 
 module _ {D : Type 0} {g : Ghosts D} (image : Image) where
@@ -57,10 +57,11 @@ module _ {D : Type 0} {g : Ghosts D} (image : Image) where
     -- The event was made in the file.
     pub record HasMade (desk : Desk (FileStore D g) over_files) : Type 0 where
       pub made : desk_state desk ≡ running_at (new_point name rounds cut) 2
-      -- in a file that held nothing the five tables then stand alone and represent it, and so does each thing that a crash may leave
+      -- in a file that held nothing the five tables stand alone
       pub alone : HoldsNothing image → HasCleanDisk (state over_files desk) → (state over_files desk).now.schema ≡ alone_schema 2
-      pub created : HoldsNothing image → HasCleanDisk (state over_files desk) → HoldsOwnEvent over_files desk
-      pub acknowledged : HoldsNothing image → RecoversJust (state over_files desk) (placed_at (new_point name rounds cut) 2)
+      -- where no foreign key waited for one of them they represent it, and so does each thing that a crash may leave
+      pub created : NoneAwaitsIn image → HasCleanDisk (state over_files desk) → HoldsOwnEvent over_files desk
+      pub acknowledged : NoneAwaitsIn image → RecoversJust (state over_files desk) (placed_at (new_point name rounds cut) 2)
       -- whatever database the file held stands as it was, and the event's tables are there beside it
       pub beside : (db : Trees) → HoldsDatabase image db → HasCleanDisk (state over_files desk)
           → MakesOver (new_point name rounds cut) db (state over_files desk)
@@ -78,8 +79,8 @@ module _ {D : Type 0} {g : Ghosts D} (image : Image) where
           → (db : Database) × HasAnEvent image db × AfterCrash (file_state conn) (λ trees. trees ≡ db.trees))
       -- of what a crash left of an event just that is left, whatever the refusal
       pub spares : (placed : Placed) → Recovers image placed → OnRefused fault (λ conn. AfterCrash (file_state conn) (IsStoredAt placed))
-      pub crash : HoldsNothing image
-          → OnRefused fault (λ conn. AfterCrash (file_state conn) (Either ListsNothing (IsStoredIn 2 (initial_event name rounds cut) 0)))
+      pub crash : NoneAwaitsIn image
+          → OnRefused fault (λ conn. AfterCrash (file_state conn) (Either (AreFoundIn image) (IsStoredIn 2 (initial_event name rounds cut) 0)))
       pub beside_crash : (db : Trees) → HoldsDatabase image db → OnRefused fault (λ conn. HasCleanDisk (file_state conn)
           → RecoversBeside (new_point name rounds cut) db (file_state conn))
 

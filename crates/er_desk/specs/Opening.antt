@@ -29,12 +29,11 @@ use Rattle.er_event.specs.Sound.{IsSoundButForSeeds}
 use Rattle.er_rules.specs.Sound.{HasSeeds}
 use Rattle.er_store.specs.Fault.{store_refusal}
 use Rattle.er_store.specs.Damage.{ReadsParts, ReadsTallies, IsAtFault, IfDamaged}
-use Rattle.er_store.specs.Beside.{IsStoredBeside, HoldsBeside}
+use Rattle.er_store.specs.Beside.{IsStoredBeside, HoldsBeside, NoneAwaitsFive}
 use Rattle.er_store.specs.Reading.{KeepsTables}
 use Rattle.er_store.specs.Representing.{CanRead, Either, IsStoredIn, AfterCrash, ReadsEvent}
 use Rattle.er_desk.specs.declared.desk.Desk.{Desk}
 use Rattle.er_desk.specs.Desk.{Point, state}
-use Rattle.er_desk.specs.Headline.{IsEmptyFile}
 use Rattle.er_desk.specs.declared.opening.OpenFault.{OpenFault}
 use Rattle.er_desk.specs.declared.opening.OpenFault.TheVariants.{Unopened, Refused}
 
@@ -67,14 +66,14 @@ pub record ChangesNothing (old new : State) : Type 0 where
   pub crash : AfterCrash new old.may_leave
   pub left : IsTrue old.is_open → AfterCrash new (λ db. db ≡ old.committed.trees)
 
--- An event was not made. No table changes. Where one can be read, a crash leaves what it could before; in an empty file that, or the
--- new event whole; in any other file what was there, or that with the event's tables beside it.
+-- An event was not made. No table changes. Where one can be read, a crash leaves what it could before; where no foreign key waited for
+-- one of its tables that, or the new event whole; in any file what was there, or that with the event's tables beside it.
 pub record MakesNothing (new_event : Point) (old new : State) : Type 0 where
   pub kept : HasCleanDisk new → KeepsTables old new
   pub spares : CanRead old.now.schema → AfterCrash new old.may_leave
   pub still : CanRead old.now.schema → IsTrue old.is_open → AfterCrash new (λ db. db ≡ old.committed.trees)
-  pub crash : IsEmptyFile old → AfterCrash new (Either old.may_leave (IsStoredIn 2 new_event.event new_event.serial))
-  pub left : IsEmptyFile old → IsTrue old.is_open
+  pub crash : NoneAwaitsFive 2 old.now.schema → AfterCrash new (Either old.may_leave (IsStoredIn 2 new_event.event new_event.serial))
+  pub left : NoneAwaitsFive 2 old.now.schema → IsTrue old.is_open
       → AfterCrash new (Either (λ db. db ≡ old.committed.trees) (IsStoredIn 2 new_event.event new_event.serial))
   pub beside : IsTrue old.is_open → AfterCrash new (Either (λ db. db ≡ old.committed.trees) (IsStoredBeside 2 new_event.event old.now))
 
@@ -107,9 +106,13 @@ pub record HasAnEvent (image : Image) (db : Database) : Type 0 where
 abbrev pub HoldsNothing : Image → Type 0
 HoldsNothing image = (db : Trees) → AreFoundIn image db → db catalog_tree ≡ []
 
--- before an event is made in such a file, what a crash leaves lists none either
-abbrev pub ListsNothing : Trees → Type 0
-ListsNothing db = db catalog_tree ≡ []
+-- whatever an opening finds in the file, no foreign key in it names a table of the event
+abbrev pub NoneAwaitsIn : Image → Type 0
+NoneAwaitsIn image = (db : Database) → IsDatabase db → AreFoundIn image db.trees → NoneAwaitsFive 2 db.schema
+
+-- so it is of a file that holds nothing
+abbrev pub NewFilesAwaitNone : Type 0
+NewFilesAwaitNone = (image : Image) → HoldsNothing image → NoneAwaitsIn image
 
 -- while the connection stays open, it sees these trees, and nothing is pending
 abbrev pub HoldsStill : State → Trees → Type 0

@@ -4,6 +4,7 @@ ghost use Rattle.er_desk.specs.Headline.{Histories};
 ghost use Rattle.er_desk.specs.Asking.{ListsGrow, NextSessions, SessionsJoin};
 ghost use Rattle.er_desk.specs.Doubt.{DoubtsAreAnswered};
 ghost use Rattle.er_desk.specs.Migrations.{MovingHistories};
+ghost use Rattle.er_desk.specs.Opening.{NewFilesAwaitNone};
 ghost use Rattle.er_desk.specs.Resuming.{Resuming};
 ghost use Rattle.er_rules.specs.Retry.{NoDoubleEffect};
 
@@ -22,6 +23,11 @@ pub fn next_sessions()
 {
     histories();
 }
+
+/// In a file that holds nothing, no foreign key names a table of the event.
+pub fn new_files_await_none()
+    ensures { NewFilesAwaitNone }
+{}
 
 /// Two sessions, one after the other, lead and end where the two joined do.
 pub fn sessions_join()

@@ -1,7 +1,7 @@
 -- The five tables behind those that stand.
 use Rattle.er_store.proofs.Prelude.{◌≡◌, ◌≢◌, ◌+◌, ℕ, Bool, true, false, List, [], ◌∷◌, ◌++◌, length, cond, ◌==◌, arith}
-use Rattle.er_store.proofs.Prelude.{inl, inr, Some, None, refl, sym, ap, subst, ◌∙◌, true≢false, AllByRecursion, Table, Database}
-use Rattle.er_store.proofs.Prelude.{State, Row, event, player, player2, pairing, bracket, tally, ne_eqb, if◌then◌else◌, slice_get}
+use Rattle.er_store.proofs.Prelude.{Some, None, refl, sym, ap, subst, ◌∙◌, true≢false, AllByRecursion, Table, Database}
+use Rattle.er_store.proofs.Prelude.{State, Row, player, player2, ne_eqb, if◌then◌else◌, slice_get}
 use Rattle.std.proofs.lemmas.Bool.{lt-leb, eq-eqb}
 use Rattle.std.proofs.lemmas.Option.{slice_get-get_or}
 use Rattle.std.proofs.Math.Seq.{get_or-append_seam}
@@ -10,14 +10,14 @@ use Rattle.std.specs.{List.position_from, Prelude.{find, is_some}}
 use Rattle.sqlite_catalog.proofs.LayoutLemmas.{zipped_left}
 use Rattle.sqlite_catalog.proofs.StepLemmas.{table_below}
 use Rattle.sqlite_catalog.specs.{Listing.IsTableRow, Change.{is_used, next_tree}}
-use Rattle.sqlite_rules.proofs.ListLemmas.{all_has, all_from, has_left, has_either}
+use Rattle.sqlite_rules.proofs.ListLemmas.{all_has, all_from, has_left}
 use Rattle.sqlite_rules.specs.Lists.{Has}
 use Rattle.sqlite_schema.specs.Names.{same_name}
 use Rattle.sqlite.specs.Effect.{IsDatabase}
-use Rattle.er_store.proofs.Made.{IsAnywhere, grown, grows_then, keeps_then, stands_then, is_free}
+use Rattle.er_store.proofs.Made.{IsAnywhere, grown, is_free}
 use Rattle.er_store.proofs.Named.{IsRead}
-use Rattle.er_store.specs.Beside.{KeepsFirst, HasTable, names_taken}
-use Rattle.er_store.specs.inside.Making.{Grows, ContinuesTransaction, MakesTable, IsEmptyAfter, MakesFive, IsFound}
+use Rattle.er_store.specs.Beside.{KeepsFirst, HasTable}
+use Rattle.er_store.specs.inside.Making.{Grows, ContinuesTransaction, MakesTable, IsEmptyAfter, IsFound}
 use Rattle.er_store.specs.Tables.{players_of}
 
 -- ---- a table behind others is found
@@ -87,11 +87,11 @@ has_then {a} {b} {table} keeps has = record {
   holds = all_has (λ t. b.trees t.tree ≡ a.trees t.tree) a.schema.tables table keeps.rows has.listed ∙ has.holds;
 }
 
-empty_then : {tree : ℕ} {table : ℕ → Table} {a b : Database} → KeepsFirst a b → IsEmptyAfter tree table a → IsEmptyAfter tree table b
+pub empty_then : {tree : ℕ} {table : ℕ → Table} {a b : Database} → KeepsFirst a b → IsEmptyAfter tree table a → IsEmptyAfter tree table b
 empty_then keeps it = record { at = it.at; later = it.later; has = has_then keeps it.has }
 
 -- a table that is made after another has a later tree
-made_after : (first : Table) {table : ℕ → Table} {a b : Database} → IsAnywhere table → Has a.schema.tables first → Grows table a b
+pub made_after : (first : Table) {table : ℕ → Table} {a b : Database} → IsAnywhere table → Has a.schema.tables first → Grows table a b
     → IsEmptyAfter first.tree table b
 made_after first {table} {a} {b} anywhere listed g =
     let own : (table (next_tree a.schema)).tree ≡ next_tree a.schema = ap (λ (t : Table). t.tree) (sym (anywhere (next_tree a.schema))) in
@@ -101,7 +101,7 @@ made_after first {table} {a} {b} anywhere listed g =
       has = record { listed = grown g; holds = ap b.trees own ∙ g.empty };
     }
 
--- ---- the five
+-- ---- the players, and one step after another
 
 pub players_anywhere : (version : ℕ) → IsAnywhere (players_of version)
 players_anywhere version tree = by_version (version == 2)
@@ -127,45 +127,3 @@ goes_then p q = record {
   };
   sound = q.sound;
 }
-
--- no name but those of the five, and that of SQLite's own table of counts
-just_five : (version : ℕ) {a b c d e f : State} (one : MakesTable event a b) (two : MakesTable (players_of version) b c)
-    (three : MakesTable pairing c d) (four : MakesTable bracket d e) (five : MakesTable tally e f) (made : Table)
-    → Has (one.grows.keeps.first.more
-    ++ (((two.grows.keeps.first.more ++ three.grows.keeps.first.more) ++ four.grows.keeps.first.more) ++ five.grows.keeps.first.more)) made
-    → Has (names_taken version) made.name
-just_five version one two three four five made has = elim (has_either one.grows.keeps.first.more _ made has) [
-  | inl it ↦ elim (one.just made it) [ inl is ↦ inl is | inr own ↦ inr (inr (inr (inr (inr own)))) ]
-  | inr later ↦ elim (has_either ((two.grows.keeps.first.more ++ three.grows.keeps.first.more) ++ four.grows.keeps.first.more) _ made later) [
-    | inr it ↦ elim (five.just made it) [ inl is ↦ inr (inr (inr (inr (inl is)))) | inr own ↦ inr (inr (inr (inr (inr own)))) ]
-    | inl before ↦ elim (has_either (two.grows.keeps.first.more ++ three.grows.keeps.first.more) _ made before) [
-      | inr it ↦ elim (four.just made it) [ inl is ↦ inr (inr (inr (inl is))) | inr own ↦ inr (inr (inr (inr (inr own)))) ]
-      | inl first ↦ elim (has_either two.grows.keeps.first.more _ made first) [
-        | inr it ↦ elim (three.just made it) [ inl is ↦ inr (inr (inl is)) | inr own ↦ inr (inr (inr (inr (inr own)))) ]
-        | inl it ↦ elim (two.just made it) [ inl is ↦ inr (inl is) | inr own ↦ inr (inr (inr (inr (inr own)))) ]
-      ]
-    ]
-  ]
-]
-
-pub five_made : (version : ℕ) {a b c d e f : State} → MakesTable event a b → MakesTable (players_of version) b c → MakesTable pairing c d
-    → MakesTable bracket d e → MakesTable tally e f → MakesFive version a f
-unfolding grows_then keeps_then stands_then
-five_made version {a} {b} {c} {d} {e} {f} one two three four five =
-    let to_c = two.grows.keeps in
-    let to_d = keeps_then to_c three.grows.keeps in
-    let to_e = keeps_then to_d four.grows.keeps in
-    let from_c = keeps_then three.grows.keeps (keeps_then four.grows.keeps five.grows.keeps) in
-    let from_d = keeps_then four.grows.keeps five.grows.keeps in
-    let first : HasTable b.now (event (next_tree a.now.schema)) [] = record { listed = grown one.grows; holds = one.grows.empty } in
-    record {
-      goes = goes_then one.goes (goes_then two.goes (goes_then three.goes (goes_then four.goes five.goes)));
-      free = one.free;
-      just = just_five version one two three four five;
-      event = grows_then (λ tree. refl) one.grows (keeps_then to_e five.grows.keeps);
-      players = empty_then from_c (made_after (event (next_tree a.now.schema)) (players_anywhere version) first.listed two.grows);
-      pairing = empty_then from_d (made_after (event (next_tree a.now.schema)) (λ tree. refl) (has_then to_c first).listed three.grows);
-      bracket = empty_then five.grows.keeps (made_after (event (next_tree a.now.schema)) (λ tree. refl) (has_then to_d first).listed
-          four.grows);
-      tally = made_after (event (next_tree a.now.schema)) (λ tree. refl) (has_then to_e first).listed five.grows;
-    }

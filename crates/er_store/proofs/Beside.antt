@@ -12,9 +12,11 @@ use Rattle.er_store.proofs.Behind.{found_behind, read_behind, players_anywhere}
 use Rattle.er_store.proofs.Crash.{Settles, only, was_clean}
 use Rattle.er_store.proofs.Made.{IsAnywhere, grown}
 use Rattle.er_store.proofs.Named.{event_read}
-use Rattle.er_store.specs.Beside.{KeepsFirst, IsMade, MakesBeside, HoldsBeside, IsStoredBeside}
+use Rattle.er_store.specs.Beside.{KeepsFirst, IsMade, MakesBeside, HoldsBeside, IsStoredBeside, NoneAwaitsFive}
+use Rattle.er_event.specs.Version.{IsVersion, Keeps}
+use Rattle.er_store.proofs.Together.{event_put}
 use Rattle.er_store.specs.inside.Making.{IsEmptyAfter, MakesFive, IsFound, IsReadyBeside}
-use Rattle.er_store.specs.Representing.{Either}
+use Rattle.er_store.specs.Representing.{Either, IsNew, IsStoredIn, RepresentsNow}
 
 module _ {version : ℕ} {old mid : State} (made : MakesFive version old mid) where
   abbrev tree : ℕ
@@ -65,10 +67,11 @@ module _ {version : ℕ} {old mid : State} (made : MakesFive version old mid) wh
           },
         )
 
-pub ready_beside : {version : ℕ} {e : EventValue} {old mid new : State} (made : MakesFive version old mid)
-    → Puts (next_tree old.now.schema) (stored_event version e 0) mid new → IsReadyBeside version e old new
+pub ready_beside : {version : ℕ} {e : EventValue} {old mid new : State} → IsVersion version → IsNew e → Keeps version e
+    → (made : MakesFive version old mid) → Puts (next_tree old.now.schema) (stored_event version e 0) mid new
+    → IsReadyBeside version e old new
 unfolding all_kept
-ready_beside {version} {e} {old} made put = record {
+ready_beside {version} {e} {old} {mid} {new} known fresh keeps made put = record {
   sound = put.goes.sound;
   makes = record {
     keeps = all_kept made put;
@@ -86,6 +89,9 @@ ready_beside {version} {e} {old} made put = record {
     pairing = still_empty made put (λ n. refl) made.pairing;
     bracket = still_empty made put (λ n. refl) made.bracket;
     tally = still_empty made put (λ n. refl) made.tally;
+    represents = λ awaits.
+        let it = made.lie known awaits in
+        event_put fresh keeps it.2 (subst (λ n. Puts n (stored_event version e 0) mid new) (sym it.1) put);
   };
 }
 
@@ -124,3 +130,14 @@ shown_beside {version} {e} {s = s} = subst (λ d. HoldsBeside version e d s)
 pub stored_beside : {version : ℕ} {e : EventValue} {old mid : Database} {trees : Trees} → mid ≡ old → IsStoredBeside version e mid trees
     → IsStoredBeside version e old trees
 stored_beside {version} {e} {trees = trees} = subst (λ d. IsStoredBeside version e d trees)
+
+-- ---- where no foreign key waited for one of the five
+
+pub represents_now : {version : ℕ} {e : EventValue} {old : Database} {s : State} → HoldsBeside version e old s
+    → NoneAwaitsFive version old.schema → RepresentsNow version s e 0
+represents_now it awaits =
+    record { is_open = it.is_open; sound = it.sound; settled = it.settled; represents = it.makes.represents awaits }
+
+pub stored_whole : {version : ℕ} {e : EventValue} {old : Database} {trees : Trees} → IsStoredBeside version e old trees
+    → NoneAwaitsFive version old.schema → IsStoredIn version e 0 trees
+stored_whole it awaits = record { schema = it.schema; sound = it.sound; represents = it.makes.represents awaits }

@@ -1,7 +1,7 @@
 -- Tables that stand still do where others come behind them.
-use Rattle.er_store.proofs.Prelude.{◌≡◌, ◌≢◌, ◌⊎◌, ℕ, zero, suc, ◌+◌, ◌==◌, Bool, true, false}
-use Rattle.er_store.proofs.Prelude.{List, [], ◌∷◌, ◌++◌, length, cond, Some, None, Option}
-use Rattle.er_store.proofs.Prelude.{find, slice_get, refl, sym, ap, subst, ◌∙◌, inl, inr, true≢false, AllByRecursion, Table, Schema, arith}
+use Rattle.er_store.proofs.Prelude.{◌≡◌, ◌⊎◌, ℕ, zero, suc, ◌+◌, ◌==◌, Bool, true, false}
+use Rattle.er_store.proofs.Prelude.{List, [], ◌∷◌, ◌++◌, cond, Some, None, Option}
+use Rattle.er_store.proofs.Prelude.{find, slice_get, refl, sym, ap, subst, ◌∙◌, inl, inr, true≢false, AllByRecursion, Table, Schema}
 use Rattle.er_store.proofs.Prelude.{Layout, IsThere, HasTablesAt, table_at}
 use Rattle.std.proofs.lemmas.List.Folds.{find-append}
 use Rattle.std.specs.{List.position_from, Option.{option_or, option_and_then, option_map}}

@@ -1,10 +1,10 @@
 -- Where the tables of a layout stand.
 use Rattle.er_store.proofs.Prelude.{◌≡◌, ◌≢◌, ◌+◌, ◌==◌, ◌∙◌, ℕ, Bool, true, false, true≢false}
 use Rattle.er_store.proofs.Prelude.{if◌then◌else◌, List, get_or, find, refl, sym, ap, subst}
-use Rattle.er_store.proofs.Prelude.{inl, inr, same_Some, all_weaker, AllByRecursion, slice_get, Some, Table, Schema, Database, EventValue}
-use Rattle.er_store.proofs.Prelude.{Layout, IsThere, table_at, HasTables, HasTablesAt, IsOther, CanRead, RepresentsWith}
+use Rattle.er_store.proofs.Prelude.{inl, inr, same_Some, all_weaker, AllByRecursion, slice_get, Some, Table, Schema, EventValue}
+use Rattle.er_store.proofs.Prelude.{Layout, IsThere, table_at, HasTables, HasTablesAt, IsOther, CanRead}
 use Rattle.er_store.proofs.Prelude.{Place, EventTable, PlayerTable, PairingTable, BracketTable, TallyTable, event_row, player, player2}
-use Rattle.er_store.proofs.Prelude.{TallyRow, ◌∷◌, [], IsPermutation, map, shown_of, rows_with}
+use Rattle.er_store.proofs.Prelude.{◌∷◌, []}
 use Rattle.sqlite_schema.specs.Rules.{ParentKey, parent_key}
 use Rattle.sqlite_trees.proofs.ListLemmas.{all-slice_get}
 use Rattle.std.proofs.lemmas.Bool.{eq-eqb}

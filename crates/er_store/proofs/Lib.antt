@@ -27,6 +27,7 @@ mod Growing
 mod Creates
 mod Made
 mod Behind
+mod Standing
 mod Beside
 mod Clearing
 mod Migrating

@@ -1,5 +1,5 @@
 -- What a text that defines a table makes of any schema.
-use Rattle.er_store.proofs.Prelude.{◌≡◌, ◌⊎◌, inl, inr, ℕ, Bool, true, false, List, [], ◌∷◌, ◌++◌, length, not, ◌&&◌, ◌||◌, ◌==◌, arith}
+use Rattle.er_store.proofs.Prelude.{◌≡◌, inl, inr, ℕ, Bool, true, false, List, [], ◌∷◌, ◌++◌, length, not, ◌&&◌, ◌||◌, ◌==◌, arith}
 use Rattle.er_store.proofs.Prelude.{Option, Some, None, Ok, refl, sym, ap, subst, ◌∙◌, true≢false, AllByRecursion, Schema, Table}
 use Rattle.er_store.proofs.Prelude.{Database, State, Ran, IsPlain, command_of, runs_as, understood, everything, event, player, player2}
 use Rattle.er_store.proofs.Prelude.{pairing, bracket, tally}

@@ -108,7 +108,7 @@ pub use Rattle.er_store.specs.Representing.{Represents, RepresentsAt, HasTables,
 pub use Rattle.er_store.specs.Representing.{RepresentsNow}
 pub use Rattle.er_store.specs.Representing.{RepresentsIn, IsStoredIn}
 pub use Rattle.er_store.specs.Representing.{rows_in, rows_with, shown_of, KeepsRest, KeepsOthers, HasRows, AreKeyed, AreKeyedAt}
-pub use Rattle.er_store.specs.Tables.{event_tree, player_tree, pairing_tree, bracket_tree, tally_tree}
+pub use Rattle.er_store.specs.Tables.{player_tree}
 pub use Rattle.er_store.specs.Tables.{no_schema, pairing, bracket, read_event, player, tally, set_serial, set_phase, set_dropped, set_score}
 pub use Rattle.er_store.specs.Tables.{set_slot_score, set_tally, insert_event, insert_player, insert_pairing, insert_slot, insert_tally}
 pub use Rattle.er_store.specs.Tables.{read_players, read_pairings, read_bracket, read_tallies, read_slip, event}
@@ -120,5 +120,5 @@ pub use Rattle.er_store.specs.declared.rows.NamedPairing.{NamedPairing}
 pub use Rattle.er_store.specs.inside.Lookup.{begins_select}
 pub use Rattle.er_store.specs.inside.Meetings.{is_outside, sides_in, meeting_rows, complete_rows, sides_of}
 pub use Rattle.er_store.specs.inside.Queries.{Selects, table_query, SelectsWith, TakesParameters}
-pub use Rattle.er_store.specs.inside.Steps.{made_players, Puts, BringsToWith, Ran, Moves, Stays, Goes, IsReady, IsStage, CreatesAll}
+pub use Rattle.er_store.specs.inside.Steps.{made_players, Puts, BringsToWith, Ran, Moves, Stays, Goes, IsReady, IsStage}
 pub use Rattle.er_store.specs.inside.Totals.{set_for, set_up_to}

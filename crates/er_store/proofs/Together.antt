@@ -1,20 +1,19 @@
 -- The steps of a change, put together.
-use Rattle.er_store.proofs.Prelude.{event_tree}
 use Rattle.er_store.proofs.Prelude.{◌≡◌, ◌≢◌, ◌≤◌, ◌+◌, ◌||◌, ℕ, length, List, [], ◌∷◌, ◌++◌, map, Bool, false, refl}
 use Rattle.er_store.proofs.Prelude.{sym, subst, ◌∙◌, arith, Ordering, Less, Equal, Greater, is_eq, AllByRecursion, IsPermutation}
 use Rattle.er_store.proofs.Prelude.{IsPermutation-refl, IsPermutation-sym, IsPermutation-trans, IsPermutation-map, map-append, Row, Table}
-use Rattle.er_store.proofs.Prelude.{Schema, Trees, put_row, rowid, is_taken, Database, State, Place, EventTable, PlayerTable, PairingTable}
+use Rattle.er_store.proofs.Prelude.{Trees, put_row, rowid, is_taken, Database, State, Place, EventTable, PlayerTable, PairingTable}
 use Rattle.er_store.proofs.Prelude.{BracketTable, TallyTable, EventValue, Phase, new_player, with_player, with_phase, player_row}
 use Rattle.er_store.proofs.Prelude.{pairing_rows_from, bracket_rows_from, Player, Round, Match, TallyRow, player_columns}
 use Rattle.er_store.proofs.Prelude.{pairing_columns, bracket_columns, tally_columns, stored_event, stored_player, stored_tally, rows_in}
 use Rattle.er_store.proofs.Prelude.{rows_with, HasTablesAt, HasRows, RepresentsWith, IsKeyed, IsOther, KeepsRest, Goes, Puts}
-use Rattle.er_store.proofs.Prelude.{Moves, player_shown, Layout, inl, inr, RepresentsIn, tally_rows, made_players, tally_schema, shown_of}
-use Rattle.er_store.proofs.Prelude.{stored_player2, BringsToWith, CreatesAll, all_weaker, value_cmp, All-cons, All-nil, everything, event}
-use Rattle.er_event.specs.Version.{IsVersion, Keeps, KeepsPlayers}
+use Rattle.er_store.proofs.Prelude.{Moves, player_shown, Layout, RepresentsIn, tally_rows, shown_of}
+use Rattle.er_store.proofs.Prelude.{stored_player2, BringsToWith, all_weaker, value_cmp, All-cons, All-nil}
+use Rattle.er_event.specs.Version.{Keeps, KeepsPlayers}
 use Rattle.std.proofs.lemmas.List.Elements.{All-append}
 use Rattle.std.proofs.lemmas.List.Sorted.{IsPermutation-to_front, IsPermutation-middle, IsPermutation-cons}
 use Rattle.std.specs.Ordering.{match_ordering}
-use Rattle.er_store.specs.{Representing.IsNew, inside.{Making.IsFound, Moving.made_layout}}
+use Rattle.er_store.specs.{Representing.IsNew, inside.Making.LieEmpty}
 use Rattle.er_store.proofs.Layouts.{apart, tree_is, of_ours}
 
 -- ---- a row with a free rowid is one more row
@@ -246,76 +245,35 @@ second_player_added l is represents name = player_added represents name _ (rw is
 
 -- ---- creation
 
-pub first_has : HasTablesAt (made_layout 1) (tally_schema (made_players 1))
-unfolding everything
-first_has = record {
-  known = inl refl;
-  has = elim [
-    | EventTable ↦ (0, record { named = refl; is = refl; low = refl; found = refl })
-    | PlayerTable ↦ (1, record { named = refl; is = refl; low = refl; found = refl })
-    | PairingTable ↦ (2, record { named = refl; is = refl; low = refl; found = refl })
-    | BracketTable ↦ (3, record { named = refl; is = refl; low = refl; found = refl })
-    | TallyTable ↦ (4, record { named = refl; is = refl; low = refl; found = refl })
-  ];
-  apart = (tt, (tt, (tt, (tt, (tt, tt)))));
-}
-
-second_has : HasTablesAt (made_layout 2) (tally_schema (made_players 2))
-unfolding everything
-second_has = record {
-  known = inr refl;
-  has = elim [
-    | EventTable ↦ (0, record { named = refl; is = refl; low = refl; found = refl })
-    | PlayerTable ↦ (1, record { named = refl; is = refl; low = refl; found = refl })
-    | PairingTable ↦ (2, record { named = refl; is = refl; low = refl; found = refl })
-    | BracketTable ↦ (3, record { named = refl; is = refl; low = refl; found = refl })
-    | TallyTable ↦ (4, record { named = refl; is = refl; low = refl; found = refl })
-  ];
-  apart = (tt, (tt, (tt, (tt, (tt, tt)))));
-}
-
--- how the tables lie that creation makes in this version
-pub made_has : (version : ℕ) → IsVersion version → (schema : Schema) → schema ≡ tally_schema (made_players version)
-    → HasTablesAt (made_layout version) schema
-made_has version known schema is = subst (HasTablesAt (made_layout version)) (sym is) (by_version known)
-  where
-    by_version : IsVersion version → HasTablesAt (made_layout version) (tally_schema (made_players version))
-    by_version (inl one) = rw one first_has
-    by_version (inr two) = rw two second_has
-
--- where `event` is the first of the tables that creation made
-pub made_first : (version : ℕ) (schema : Schema) → schema ≡ tally_schema (made_players version) → IsFound schema 0 (event event_tree)
-unfolding everything
-made_first version schema is =
-    subst (λ s. IsFound s 0 (event event_tree)) (sym is) (record { named = refl; is = refl })
-
--- the tables of an event that is new
-new_rows : (version : ℕ) → IsVersion version → {old mid new : State} {e : EventValue} → IsNew e → CreatesAll (made_players version) old mid
-    → Puts event_tree (stored_event version e 0) mid new
-    → HasRows (made_layout version) new.now (rows_with version e 0 (tally_rows e))
-new_rows version known {mid = mid} {new} fresh none put =
-    let l = made_layout version in
-    let has = made_has version known mid.now.schema none.schema in
-    let at = kept l event_tree mid new has put.goes in
+-- the event's row is put in where the five tables have none
+new_rows : {version : ℕ} {tree : Place → ℕ} {mid new : State} {e : EventValue} → IsNew e
+    → LieEmpty (record { version = version; tree = tree }) mid.now → Puts (tree EventTable) (stored_event version e 0) mid new
+    → HasRows (record { version = version; tree = tree }) new.now (rows_with version e 0 (tally_rows e))
+new_rows {version} {tree} {mid} {new} fresh none put =
+    let l : Layout = record { version = version; tree = tree } in
+    let at : (p : Place) → l.tree p ≢ tree EventTable → new.now.trees (tree p) ≡ [] =
+    λ p other. kept l (tree EventTable) mid new none.stand put.goes p other ∙ none.empty p in
+    let far = apart l none.stand in
     record {
-      tables = subst (HasTablesAt l) (sym put.goes.schema) has;
+      tables = subst (HasTablesAt l) (sym put.goes.schema) none.stand;
       rows = elim [
-        | EventTable ↦ rw (put.rows, none.event) (IsPermutation-refl _)
-        | PlayerTable ↦ rw (at PlayerTable (λ x. cc), none.player, fresh.players) (IsPermutation-refl [])
-        | PairingTable ↦ rw (at PairingTable (λ x. cc), none.pairing, fresh.stored) (IsPermutation-refl [])
-        | BracketTable ↦ rw (at BracketTable (λ x. cc), none.bracket, fresh.bracket) (IsPermutation-refl [])
-        | TallyTable ↦ rw (at TallyTable (λ x. cc), none.tally, fresh.players) (IsPermutation-refl [])
+        | EventTable ↦ rw (put.rows, none.empty EventTable) (IsPermutation-refl _)
+        | PlayerTable ↦ rw (at PlayerTable (far PlayerTable EventTable refl), fresh.players) (IsPermutation-refl [])
+        | PairingTable ↦ rw (at PairingTable (far PairingTable EventTable refl), fresh.stored) (IsPermutation-refl [])
+        | BracketTable ↦ rw (at BracketTable (far BracketTable EventTable refl), fresh.bracket) (IsPermutation-refl [])
+        | TallyTable ↦ rw (at TallyTable (far TallyTable EventTable refl), fresh.players) (IsPermutation-refl [])
       ];
       keyed = record {
-        pairings = rw (at PairingTable (λ x. cc), none.pairing) (record { rise = tt; numbers = refl });
-        bracket = rw (at BracketTable (λ x. cc), none.bracket) (record { rise = tt; numbers = refl });
+        pairings = rw (at PairingTable (far PairingTable EventTable refl)) (record { rise = tt; numbers = refl });
+        bracket = rw (at BracketTable (far BracketTable EventTable refl)) (record { rise = tt; numbers = refl });
       };
     }
 
-pub event_put : (version : ℕ) → IsVersion version → {old mid new : State} {e : EventValue} → IsNew e → Keeps version e
-    → CreatesAll (made_players version) old mid → Puts event_tree (stored_event version e 0) mid new → RepresentsIn version new.now e 0
-event_put version known fresh keeps all put = record {
-  layout = made_layout version;
+pub event_put : {version : ℕ} {tree : Place → ℕ} {mid new : State} {e : EventValue} → IsNew e → Keeps version e
+    → LieEmpty (record { version = version; tree = tree }) mid.now → Puts (tree EventTable) (stored_event version e 0) mid new
+    → RepresentsIn version new.now e 0
+event_put {version} {tree} fresh keeps none put = record {
+  layout = record { version = version; tree = tree };
   is = refl;
-  represents = record { low = omega arith; keeps = keeps; has = new_rows version known fresh all put };
+  represents = record { low = omega arith; keeps = keeps; has = new_rows fresh none put };
 }

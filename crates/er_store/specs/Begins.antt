@@ -13,7 +13,7 @@ use Rattle.er_event.specs.Parts.{parts_of}
 use Rattle.er_event.specs.Rows.{tally_rows}
 use Rattle.er_event.specs.Sound.{IsSoundButForSeeds}
 use Rattle.er_store.specs.declared.Store.{Store}
-use Rattle.er_store.specs.Beside.{HoldsBeside, IsStoredBeside}
+use Rattle.er_store.specs.Beside.{HoldsBeside, IsStoredBeside, NoneAwaitsFive}
 use Rattle.er_store.specs.Damage.{ReadsParts, ReadsTallies, IsAtFault, IfDamaged}
 use Rattle.er_store.specs.Fault.{IsFault, IsLoadFault}
 use Rattle.er_store.specs.Loading.{HoldsEvent}
@@ -44,11 +44,12 @@ pub record IsCreated {S : Type 0} (g : Ghosts S) (v : ℕ) (e : EventValue) (old
       × ((other : ℕ) → HasTables other old.now.schema → ⊥)
   -- whatever stood in the file stands as it was, and the five tables are there beside it, after a crash too
   pub beside : HasCleanDisk (store_state g made) → HoldsBeside v e old.now (store_state g made)
-  -- in an empty file they then stand alone and represent the event, and so does each thing that a crash may leave
+  -- in an empty file they stand alone
   pub alone : HasCleanDisk (store_state g made) → old.now.schema ≡ no_schema
       → (store_state g made).now.schema ≡ alone_schema v
-  pub created : HasCleanDisk (store_state g made) → old.now.schema ≡ no_schema → RepresentsNow v (store_state g made) e 0
-  pub acknowledged : old.now.schema ≡ no_schema → AfterCrash (store_state g made) (IsStoredIn v e 0)
+  -- where no foreign key waited for one of them they represent the event, and so does each thing that a crash may leave
+  pub created : HasCleanDisk (store_state g made) → NoneAwaitsFive v old.now.schema → RepresentsNow v (store_state g made) e 0
+  pub acknowledged : NoneAwaitsFive v old.now.schema → AfterCrash (store_state g made) (IsStoredIn v e 0)
 
 -- They were not, and the connection comes back.
 pub record IsNotCreated {S : Type 0} (g : Ghosts S) (v : ℕ) (e : EventValue) (old : State) (left : Held S × Refusal)
@@ -66,7 +67,7 @@ pub record IsNotCreated {S : Type 0} (g : Ghosts S) (v : ℕ) (e : EventValue) (
   pub kept : HasCleanDisk (held_state g left.0) → KeepsTables old (held_state g left.0)
   pub spares : CanRead old.now.schema → AfterCrash (held_state g left.0) old.may_leave
   -- else it may leave the new event whole too
-  pub crash : old.now.schema ≡ no_schema
+  pub crash : NoneAwaitsFive v old.now.schema
       → AfterCrash (held_state g left.0) (Either old.may_leave (IsStoredIn v e 0))
   pub beside_crash : AfterCrash (held_state g left.0)
       (Either old.may_leave (IsStoredBeside v e old.now))

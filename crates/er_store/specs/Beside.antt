@@ -1,8 +1,10 @@
 -- What creation leaves beside tables of others: theirs as they were, and behind them the five.
-use Rattle.std.specs.Prelude.{◌≡◌, ℕ, List, [], ◌∷◌, ◌++◌, IsTrue, codes}
+use Rattle.std.specs.Prelude.{◌≡◌, ℕ, false, List, [], ◌∷◌, ◌++◌, IsTrue, codes}
+use Rattle.std.specs.List.{AllByRecursion}
 use Rattle.sqlite_catalog.specs.Change.{KeepsRows}
 use Rattle.sqlite_catalog.specs.Listing.{IsSound}
 use Rattle.sqlite_rules.specs.Lists.{Has}
+use Rattle.sqlite_schema.specs.Names.{same_name}
 use Rattle.sqlite_schema.specs.declared.schema.Index.{Index}
 use Rattle.sqlite.specs.Order.{Row}
 use Rattle.sqlite.specs.Table.{Table}
@@ -13,7 +15,7 @@ use Rattle.sqlite.specs.State.{State}
 use Rattle.er_event.specs.Event.{EventValue}
 use Rattle.er_store.specs.Tables.{event, players_of, pairing, bracket, tally}
 use Rattle.er_store.specs.Rows.{stored_event}
-use Rattle.er_store.specs.Representing.{CanRead}
+use Rattle.er_store.specs.Representing.{CanRead, RepresentsIn}
 
 -- What stood in the file stands first in it, and what was made comes behind it.
 pub record StandsFirst (old new : Schema) : Type 0 where
@@ -37,14 +39,25 @@ pub record HasTable (db : Database) (table : Table) (rows : List Row) : Type 0 w
 abbrev pub IsMade : (ℕ → Table) → List Row → Database → Type 0
 IsMade table rows db = (tree : ℕ) × HasTable db (table tree) rows
 
+-- the names of the five tables of a version
+abbrev pub names_made : ℕ → List (List ℕ)
+names_made version = codes "event" ∷ (players_of version 0).name ∷ codes "pairing" ∷ codes "bracket" ∷ codes "tally" ∷ []
+
 -- The names that a creation takes: those of its five tables, and that of SQLite's own table of counts, which comes too where a table of
 -- others asks for it.
 abbrev pub names_taken : ℕ → List (List ℕ)
-names_taken version =
-    codes "event" ∷ (players_of version 0).name ∷ codes "pairing" ∷ codes "bracket" ∷ codes "tally" ∷ codes "sqlite_sequence" ∷ []
+names_taken version = names_made version ++ codes "sqlite_sequence" ∷ []
+
+-- no foreign key of a table names this one
+abbrev pub NoneAwaits : List ℕ → Schema → Type 0
+NoneAwaits name schema = AllByRecursion (λ t. AllByRecursion (λ ref. same_name name ref.parent ≡ false) t.references) schema.tables
+
+-- nor one of the five of this version
+abbrev pub NoneAwaitsFive : ℕ → Schema → Type 0
+NoneAwaitsFive version schema = AllByRecursion (λ name. NoneAwaits name schema) (names_made version)
 
 -- What stood stays, and the five tables of this version are there, and no other: `event` can be read and has the event's row, and the
--- others have none.
+-- others have none. If no foreign key of what stood names one of them, they represent the event.
 pub record MakesBeside (version : ℕ) (e : EventValue) (old new : Database) : Type 0 where
   pub keeps : KeepsFirst old new
   pub just : (table : Table) → Has keeps.first.more table → Has (names_taken version) table.name
@@ -54,6 +67,7 @@ pub record MakesBeside (version : ℕ) (e : EventValue) (old new : Database) : T
   pub pairing : IsMade pairing [] new
   pub bracket : IsMade bracket [] new
   pub tally : IsMade tally [] new
+  pub represents : NoneAwaitsFive version old.schema → RepresentsIn version new e 0
 
 -- what a crash leaves has them so
 pub record IsStoredBeside (version : ℕ) (e : EventValue) (old : Database) (trees : Trees) : Type 0 where

@@ -1,9 +1,8 @@
 -- What a migration promises.
-use Rattle.std.specs.Prelude.{◌≡◌, ◌⊎◌, ℕ, List, [], ◌∷◌, Bool, true, false, IsTrue, IsFalse, IsErr, OnOk, OnErr, Result, Ok, Err, codes}
+use Rattle.std.specs.Prelude.{◌≡◌, ◌⊎◌, ℕ, [], ◌∷◌, Bool, true, IsTrue, IsFalse, IsErr, OnOk, OnErr, Result, Ok, Err, codes}
 use Rattle.std.specs.List.{AllByRecursion}
 use Rattle.sqlite_catalog.specs.Change.{is_used}
 use Rattle.sqlite_rules.specs.Lists.{Has}
-use Rattle.sqlite_schema.specs.Names.{same_name}
 use Rattle.sqlite.specs.Effect.{Database}
 use Rattle.sqlite.specs.Schema.{Schema}
 use Rattle.sqlite.specs.Table.{Table}
@@ -16,7 +15,7 @@ use Rattle.er_event.specs.declared.refusals.Refusal.{Refusal}
 use Rattle.er_event.specs.declared.refusals.Refusal.TheVariants.{NeedsReopen}
 use Rattle.er_store.specs.declared.Store.{Store}
 use Rattle.er_store.specs.Fault.{IsFault}
-use Rattle.er_store.specs.Beside.{StandsFirst}
+use Rattle.er_store.specs.Beside.{NoneAwaits, StandsFirst}
 use Rattle.er_store.specs.Layout.{Layout}
 use Rattle.er_store.specs.Reading.{KeepsTables}
 use Rattle.er_store.specs.Representing.{HasTablesAt, IsOther, IsStoredIn, RepresentsNow, AfterCrash}
@@ -24,8 +23,7 @@ use Rattle.er_store.specs.Store.{store_state, store_version, needs_reopen}
 
 -- no foreign key waits for a table `player2`
 abbrev pub NoneAwaitsPlayer2 : Schema → Type 0
-NoneAwaitsPlayer2 schema = AllByRecursion (λ t. AllByRecursion
-    (λ ref. same_name (codes "player2") ref.parent ≡ false) t.references) schema.tables
+NoneAwaitsPlayer2 schema = NoneAwaits (codes "player2") schema
 
 -- The tables represent the event in version 1, and no foreign key waits for a table `player2`.
 pub record CanMigrate (s : State) (e : EventValue) (serial : ℕ) : Type 0 where

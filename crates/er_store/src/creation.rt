@@ -3,7 +3,7 @@ ghost use Rattle.sqlite.specs.State.{HasCleanDisk};
 ghost use Rattle.er_event.specs.Event.{EventValue};
 ghost use Rattle.er_store.specs.Tables.{player_tree, event, player, player2, players_of, pairing, bracket, tally, no_schema, event_schema};
 ghost use Rattle.er_store.specs.Tables.{player_schema, pairing_schema, bracket_schema, tally_schema};
-ghost use Rattle.er_store.specs.inside.Steps.{made_players, CreatesAll};
+ghost use Rattle.er_store.specs.inside.Steps.{made_players};
 ghost use Rattle.er_store.specs.inside.Within.{tx_state, Lends, Achieves, MakesNext};
 ghost use Rattle.er_store.specs.inside.Making.{MakesFive};
 ghost use Rattle.er_store.specs.inside.Moving.{MayMove, IsMoveBegun};
@@ -106,8 +106,9 @@ fn create_players<S: Alter>(tx: &mut Transaction<'_, S>, version: u8) -> Result<
 /// Makes the five tables as this version has them.
 pub fn create_all<S: Alter>(tx: &mut Transaction<'_, S>, version: u8) -> Result<(), Error>
     ensures lends { Lends S.Store tx.old tx.new }
-    ensures creates { (tx_state S.Store tx.old).now.schema ≡ no_schema
-        → Achieves S.Store (CreatesAll (made_players version)) tx.old result tx.new }
+    ensures alone { (tx_state S.Store tx.old).now.schema ≡ no_schema
+        → Achieves S.Store (λ a b. b.now.schema ≡ tally_schema (made_players version))
+        tx.old result tx.new }
     ensures beside { Achieves S.Store (MakesFive version) tx.old result tx.new }
 {
     create_event(tx)?;

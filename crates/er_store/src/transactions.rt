@@ -24,7 +24,7 @@ ghost use Rattle.er_store.specs.Representing.{RepresentsAt, IsStoredIn, IsNew, R
 ghost use Rattle.er_store.specs.Representing.{ReadsEvent};
 ghost use Rattle.er_store.specs.Beside.{HoldsBeside, IsStoredBeside};
 ghost use Rattle.er_store.specs.inside.Making.{IsReadyBeside};
-ghost use Rattle.er_store.specs.inside.Steps.{made_players, Moves, BringsTo, IsReady};
+ghost use Rattle.er_store.specs.inside.Steps.{made_players, Moves, BringsTo};
 ghost use Rattle.er_store.specs.inside.Within.{tx_state, Lends, Achieves, Brings, Counts, Inside, HasPlayer};
 ghost use Rattle.er_store.specs.inside.Looking.{OnlyLooks, Transacts};
 
@@ -374,9 +374,9 @@ fn make_event<S: Alter>(
     requires known { IsVersion version }
     requires keeps { Keeps version event.now }
     ensures lends { Lends S.Store tx.old tx.new }
-    ensures readies { (tx_state S.Store tx.old).now.schema ≡ no_schema
-        → Achieves S.Store (λ a b. IsReady version b event.now 0
-        × (b.now.schema ≡ tally_schema (made_players version))) tx.old result tx.new }
+    ensures alone { (tx_state S.Store tx.old).now.schema ≡ no_schema
+        → Achieves S.Store (λ a b. b.now.schema ≡ tally_schema (made_players version))
+        tx.old result tx.new }
     ensures beside { Achieves S.Store (IsReadyBeside version event.now) tx.old result tx.new }
     ensures inside { Achieves S.Store Inside tx.old result tx.new }
 {
@@ -395,15 +395,9 @@ pub fn create_tables<S: Alter>(
     requires known { IsVersion version }
     requires keeps { Keeps version event.now }
     ensures transacts { Transacts S.Store conn.old result conn.new }
-    ensures created { HasCleanDisk (state S.Store conn.new)
+    ensures alone { HasCleanDisk (state S.Store conn.new)
         → (state S.Store conn.old).now.schema ≡ no_schema
-        → OnOk result (RepresentsNow version (state S.Store conn.new) event.now 0
-        × ((state S.Store conn.new).now.schema ≡ tally_schema (made_players version))) }
-    ensures acknowledged { (state S.Store conn.old).now.schema ≡ no_schema
-        → OnOk result (AfterCrash (state S.Store conn.new) (IsStoredIn version event.now 0)) }
-    ensures crash { (state S.Store conn.old).now.schema ≡ no_schema
-        → AfterCrash (state S.Store conn.new)
-        (Either (state S.Store conn.old).may_leave (IsStoredIn version event.now 0)) }
+        → OnOk result ((state S.Store conn.new).now.schema ≡ tally_schema (made_players version)) }
     ensures beside { HasCleanDisk (state S.Store conn.new)
         → OnOk result (HoldsBeside version event.now (state S.Store conn.old).now
         (state S.Store conn.new)) }

@@ -8,9 +8,14 @@ use Rattle.sqlite.specs.Schema.{Schema}
 use Rattle.sqlite.specs.Effect.{Database, IsDatabase}
 use Rattle.sqlite.specs.State.{State, Shows}
 use Rattle.er_event.specs.Event.{EventValue}
+use Rattle.er_event.specs.Version.{IsVersion}
+use Rattle.er_event.specs.declared.refusals.Place.{Place}
+use Rattle.er_event.specs.declared.refusals.Place.TheVariants.{EventTable}
 use Rattle.er_store.specs.Tables.{event, players_of, pairing, bracket, tally}
 use Rattle.sqlite_rules.specs.Lists.{Has}
-use Rattle.er_store.specs.Beside.{KeepsFirst, HasTable, MakesBeside, names_taken}
+use Rattle.er_store.specs.Beside.{KeepsFirst, HasTable, MakesBeside, NoneAwaitsFive, names_taken}
+use Rattle.er_store.specs.Layout.{Layout}
+use Rattle.er_store.specs.Representing.{HasTablesAt}
 
 -- where a schema has the table of this name
 pub record IsFound (schema : Schema) (at : ℕ) (table : Table) : Type 0 where
@@ -49,7 +54,12 @@ pub record IsEmptyAfter (tree : ℕ) (table : ℕ → Table) (db : Database) : T
   pub later : tree < at
   pub has : HasTable db (table at) []
 
--- the five tables were made and no other, `event` first
+-- the five tables lie so, with no row
+pub record LieEmpty (layout : Layout) (db : Database) : Type 0 where
+  pub stand : HasTablesAt layout db.schema
+  pub empty : (table : Place) → db.trees (layout.tree table) ≡ []
+
+-- The five tables were made and no other, `event` first. If no foreign key waited for one of them, they lie so.
 pub record MakesFive (version : ℕ) (old new : State) : Type 0 where
   pub goes : ContinuesTransaction old new
   pub free : is_used old.now.schema (codes "event") ≡ false
@@ -59,6 +69,8 @@ pub record MakesFive (version : ℕ) (old new : State) : Type 0 where
   pub pairing : IsEmptyAfter (next_tree old.now.schema) pairing new.now
   pub bracket : IsEmptyAfter (next_tree old.now.schema) bracket new.now
   pub tally : IsEmptyAfter (next_tree old.now.schema) tally new.now
+  pub lie : IsVersion version → NoneAwaitsFive version old.now.schema → (tree : Place → ℕ)
+      × (tree EventTable ≡ next_tree old.now.schema) × LieEmpty (record { version = version; tree = tree }) new.now
 
 -- and then the event's row was put in: only the commit is left
 pub record IsReadyBeside (version : ℕ) (e : EventValue) (old new : State) : Type 0 where

@@ -16,21 +16,9 @@ use Rattle.er_event.specs.declared.refusals.Place.{Place}
 use Rattle.er_event.specs.declared.refusals.Place.TheVariants.{EventTable, PlayerTable, PairingTable, BracketTable, TallyTable}
 use Rattle.er_store.specs.Beside.{StandsFirst}
 use Rattle.er_store.specs.Migrated.{NoneAwaitsPlayer2, MigratesBeside}
-use Rattle.er_store.specs.Tables.{event_tree, player_tree, pairing_tree, bracket_tree, tally_tree}
 use Rattle.er_store.specs.Layout.{Layout}
 use Rattle.er_store.specs.Representing.{rows_with, HasTablesAt, HasRows, IsOther, RepresentsIn}
 use Rattle.er_store.specs.inside.Making.{ContinuesTransaction}
-
--- where creation makes the tables, in an empty file
-abbrev pub made_tree : Place → ℕ
-made_tree EventTable = event_tree
-made_tree PlayerTable = player_tree
-made_tree PairingTable = pairing_tree
-made_tree BracketTable = bracket_tree
-made_tree TallyTable = tally_tree
-
-abbrev pub made_layout : ℕ → Layout
-made_layout version = record { version = version; tree = made_tree }
 
 -- the tables of version 2 lie as those of version 1, but for that of the players
 abbrev pub moved_place : (Place → ℕ) → ℕ → Place → ℕ

@@ -1,9 +1,7 @@
 -- What one statement does within a transaction.
-use Rattle.std.specs.Prelude.{◌≡◌, ◌≢◌, ◌<◌, ◌≤◌, ℕ, Ok, true, false, List, [], length, IsTrue}
+use Rattle.std.specs.Prelude.{◌≡◌, ◌≢◌, ◌<◌, ◌≤◌, ℕ, Ok, true, false, List, length, IsTrue}
 use Rattle.std.specs.List.{AllByRecursion}
 use Rattle.sqlite.specs.Tree.{put_row}
-use Rattle.sqlite.specs.Schema.{Schema}
-use Rattle.sqlite.specs.Change.{next_tree, KeepsRows}
 use Rattle.sqlite.specs.Order.{Row}
 use Rattle.sqlite.specs.Effect.{IsDatabase}
 use Rattle.sqlite.specs.State.{State, Shows, HasCleanDisk, KeepsCommit, Survives, ExecutesInside}
@@ -12,7 +10,7 @@ use Rattle.er_event.specs.declared.matches.Match.{Match}
 use Rattle.er_event.specs.declared.rows.tally.TallyRow.{TallyRow}
 use Rattle.er_event.specs.Event.{EventValue}
 use Rattle.er_event.specs.Rows.{tally_rows}
-use Rattle.er_store.specs.Tables.{event_tree, player_tree, pairing_tree, bracket_tree, tally_tree, tally_schema, players_of}
+use Rattle.er_store.specs.Tables.{player_tree, players_of}
 use Rattle.sqlite.specs.Table.{Table}
 use Rattle.er_store.specs.Representing.{RepresentsWith, RepresentsIn, KeepsRest}
 use Rattle.er_store.specs.Layout.{Layout}
@@ -70,24 +68,3 @@ IsStage matches = (0 < length matches) × (length matches ≤ 4)
 -- the table of players that creation makes in this version
 abbrev pub made_players : ℕ → Table
 made_players version = players_of version player_tree
-
--- A table was made, with no row. The rows of the other tables stay.
-pub record CreatesNext (before after : Schema) (old new : State) : Type 0 where
-  pub was : IsTrue old.in_transaction
-  pub shows : Shows old new new.now old.committed true
-  pub sound : IsDatabase new.now
-  pub schema : new.now.schema ≡ after
-  pub empty : new.now.trees (next_tree before) ≡ []
-  pub others : KeepsRows before.tables old.now.trees new.now.trees
-
--- the five tables were made in an empty schema, with this table of players
-pub record CreatesAll (players : Table) (old new : State) : Type 0 where
-  pub was : IsTrue old.in_transaction
-  pub shows : Shows old new new.now old.committed true
-  pub sound : IsDatabase new.now
-  pub schema : new.now.schema ≡ tally_schema players
-  pub event : new.now.trees event_tree ≡ []
-  pub player : new.now.trees player_tree ≡ []
-  pub pairing : new.now.trees pairing_tree ≡ []
-  pub bracket : new.now.trees bracket_tree ≡ []
-  pub tally : new.now.trees tally_tree ≡ []

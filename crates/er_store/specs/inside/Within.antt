@@ -14,7 +14,7 @@ use Rattle.er_event.specs.declared.rows.tally.TallyRow.{TallyRow}
 use Rattle.er_store.specs.Layout.{Layout}
 use Rattle.er_store.specs.Representing.{RepresentsWith}
 use Rattle.er_store.specs.inside.Making.{MakesTable}
-use Rattle.er_store.specs.inside.Steps.{Stays, BringsToWith, CreatesNext}
+use Rattle.er_store.specs.inside.Steps.{Stays, BringsToWith}
 
 -- what the connection of a transaction shows
 abbrev pub tx_state : {S : Type 0} (g : Ghosts S) → Transaction S → State
@@ -56,5 +56,5 @@ HasPlayer e number = (numbers e.players ≡ range_with_len 1 (length e.players))
 pub record MakesNext {S : Type 0} (g : Ghosts S) (table : ℕ → Table) (before after : Schema)
     (old : Transaction S) (result : Result (Unit {0}) Error) (new : Transaction S)
     : Type 0 where
-  pub creates : (tx_state g old).now.schema ≡ before → Achieves g (CreatesNext before after) old result new
+  pub creates : (tx_state g old).now.schema ≡ before → Achieves g (λ a b. b.now.schema ≡ after) old result new
   pub beside : Achieves g (MakesTable table) old result new

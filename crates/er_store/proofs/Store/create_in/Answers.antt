@@ -1,8 +1,9 @@
-use Rattle.er_store.proofs.Prelude.{◌≡◌, ◌∙◌, IsUnchanged, inl, inr, refl, sym, subst, true≢false, rules, state, no_schema, CanRead}
+use Rattle.er_store.proofs.Prelude.{◌∙◌, IsUnchanged, inl, inr, refl, sym, subst, true≢false, rules, state, no_schema, CanRead}
 use Rattle.er_store.proofs.Prelude.{HasCleanDisk}
 use Rattle.er_store.proofs.{LoadLemmas.{schema_kept, unchanged_keeps, then_keeps}, Meaning.unreadable, Layouts.can_read}
 use Rattle.er_store.proofs.{Crash.{only, was_clean}}
-use Rattle.er_store.proofs.Beside.{shown_beside, stored_beside}
+use Rattle.er_store.specs.{Beside.{HoldsBeside, IsStoredBeside}, Representing.{AfterCrash, Either}}
+use Rattle.er_store.proofs.Beside.{shown_beside, stored_beside, represents_now, stored_whole}
 use Rattle.er_store.proofs.Store.create_in.Goals as goal
 
 pub returns-in-Ok : goal.returns-in-Ok
@@ -11,9 +12,9 @@ returns-in-Ok g c =
     let old = state g.S.Store c.args.conn in
     let same : HasCleanDisk (state g.S.Store c.create_tables.new.conn) → IsUnchanged old (state g.S.Store c.has_event.new.conn) =
     λ clean. look.looks.same (c.in-Ok.ensures.transacts.clean clean) in
-    let empty : HasCleanDisk (state g.S.Store c.create_tables.new.conn) → old.now.schema ≡ no_schema
-    → (state g.S.Store c.has_event.new.conn).now.schema ≡ no_schema =
-    λ clean none. schema_kept _ _ no_schema (same clean) none in
+    let beside : HasCleanDisk (state g.S.Store c.create_tables.new.conn)
+    → HoldsBeside c.args.version c.args.event.now old.now (state g.S.Store c.create_tables.new.conn) =
+    λ clean. shown_beside (same clean).0.now_is (c.in-Ok.ensures.beside clean) in
     record {
       ready = search rules;
       version = search rules;
@@ -23,10 +24,10 @@ returns-in-Ok g c =
           let none : CanRead (state g.S.Store c.args.conn).now.schema → ⊥ =
           λ reads. true≢false (sym ((look.found (c.in-Ok.ensures.transacts.clean clean)).1 reads) ∙ c.in-Ok-false.field-0-test) in
           (none, λ version has. none (can_read _ has));
-      beside = λ clean. shown_beside (same clean).0.now_is (c.in-Ok.ensures.beside clean);
-      alone = λ clean none. (c.in-Ok.ensures.created clean (empty clean none)).1;
-      created = λ clean none. (c.in-Ok.ensures.created clean (empty clean none)).0;
-      acknowledged = λ none clean. c.in-Ok.ensures.acknowledged (empty clean none) clean;
+      beside = beside;
+      alone = λ clean none. c.in-Ok.ensures.alone clean (schema_kept _ _ no_schema (same clean) none);
+      created = λ clean awaits. represents_now (beside clean) awaits;
+      acknowledged = λ awaits clean trees may. stored_whole ((beside clean).leaves trees may) awaits;
     }
 
 pub returns-in-Err-create_tables : goal.returns-in-Err-create_tables
@@ -36,6 +37,12 @@ returns-in-Err-create_tables g c =
     let same : HasCleanDisk (state g.S.Store c.create_tables.new.conn)
     → IsUnchanged (state g.S.Store c.args.conn) (state g.S.Store c.has_event.new.conn) =
     λ clean. look.looks.same (failed.transacts.clean clean) in
+    let beside : AfterCrash (state g.S.Store c.create_tables.new.conn) (Either (state g.S.Store c.args.conn).may_leave
+    (IsStoredBeside c.args.version c.args.event.now (state g.S.Store c.args.conn).now)) =
+    λ clean trees may. elim (failed.beside_crash clean trees may) [
+      | inl before ↦ inl (only (look.looks.survives.crash (failed.transacts.clean clean) trees before))
+      | inr made ↦ inr (stored_beside (same clean).0.now_is made)
+    ] in
     record {
       mode = search rules;
       limit = failed.transacts.limit ∙ look.looks.survives.limit;
@@ -46,18 +53,11 @@ returns-in-Err-create_tables g c =
           (state g.S.Store c.create_tables.new.conn) (same clean) (failed.transacts.kept clean);
       spares = λ reads clean trees may.
           absurd (true≢false (sym ((look.found (failed.transacts.clean clean)).1 reads) ∙ c.in-Ok-false.field-0-test));
-      crash = λ none clean trees may.
-          let early = failed.transacts.clean clean in
-          elim (failed.crash (schema_kept _ _ no_schema (same clean) none) clean trees may) [
-            | inl before ↦ inl (only (look.looks.survives.crash early trees before))
-            | inr made ↦ inr made
-          ];
-      beside_crash = λ clean trees may.
-          let early = failed.transacts.clean clean in
-          elim (failed.beside_crash clean trees may) [
-            | inl before ↦ inl (only (look.looks.survives.crash early trees before))
-            | inr made ↦ inr (stored_beside (same clean).0.now_is made)
-          ];
+      crash = λ awaits clean trees may. elim (beside clean trees may) [
+        | inl before ↦ inl before
+        | inr made ↦ inr (stored_whole made awaits)
+      ];
+      beside_crash = beside;
     }
 
 pub returns-in-Ok-true : goal.returns-in-Ok-true

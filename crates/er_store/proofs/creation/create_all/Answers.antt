@@ -1,19 +1,19 @@
 use Rattle.er_store.proofs.Prelude.{on_ok_weaker}
-use Rattle.er_store.proofs.{Behind.five_made, Lending.lends_then, Crash.was_clean, Creates.all_made}
+use Rattle.er_store.proofs.{Standing.five_made, Lending.lends_then, Crash.was_clean}
 use Rattle.er_store.proofs.creation.create_all.Goals as goal
 
-pub returns-clause-creates : goal.returns-clause-creates
-returns-clause-creates g c has clean =
+pub returns-clause-alone : goal.returns-clause-alone
+returns-clause-alone g c has clean =
     let clean_f = was_clean c.create_tally.ensures.lends.stays.survives clean in
     let clean_e = was_clean c.create_bracket.ensures.lends.stays.survives clean_f in
     let clean_d = was_clean c.create_pairing.ensures.lends.stays.survives clean_e in
     let clean_b = was_clean c.create_players.ensures.lends.stays.survives clean_d in
     let one = c.in_ok-create_event.ensures.makes.creates has clean_b in
-    let two = c.in_ok-create_players.ensures.makes.creates one.schema clean_d in
+    let two = c.in_ok-create_players.ensures.makes.creates one clean_d in
     let v = c.args.version in
-    let three = (c.in_ok-create_pairing.ensures.makes v).creates two.schema clean_e in
-    let four = (c.in_ok-create_bracket.ensures.makes v).creates three.schema clean_f in
-    on_ok_weaker c.create_tally.result (all_made v one two three four) ((c.create_tally.ensures.makes v).creates four.schema clean)
+    let three = (c.in_ok-create_pairing.ensures.makes v).creates two clean_e in
+    let four = (c.in_ok-create_bracket.ensures.makes v).creates three clean_f in
+    (c.create_tally.ensures.makes v).creates four clean
 
 -- whatever stood before
 pub returns-clause-beside : goal.returns-clause-beside

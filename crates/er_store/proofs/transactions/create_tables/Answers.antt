@@ -1,44 +1,18 @@
-use Rattle.er_store.proofs.Prelude.{rules, true, ◌≡◌, on_ok_weaker, State, HasCleanDisk, state}
-use Rattle.er_store.proofs.Prelude.{no_schema, IsReady}
-use Rattle.er_store.proofs.Prelude.{Database, tally_schema, made_players, ap, ◌∙◌}
-use Rattle.er_store.proofs.{Lending.{on_ok_later, dropped, committed}}
-use Rattle.er_store.proofs.{Crash.{was_clean, written, leaves_either, shows_leaves_in}}
+use Rattle.er_store.proofs.Prelude.{rules, true, ◌≡◌, on_ok_weaker, HasCleanDisk, state, Database, ap, ◌∙◌}
+use Rattle.er_store.proofs.{Lending.{dropped, committed}, Crash.was_clean}
 use Rattle.er_store.proofs.Beside.{written_beside, leaves_beside}
 use Rattle.er_store.specs.inside.Making.{IsReadyBeside}
 use Rattle.er_store.proofs.transactions.create_tables.Given as given
 use Rattle.er_store.proofs.transactions.create_tables.Goals as goal
 
--- the tables were made, as they were where the commit is reached
-ready : (g : given.Over) (c : goal.After-conn-2-1 g) → HasCleanDisk (state g.S.Store c.commit.new.self.0)
-    → (state g.S.Store c.args.conn.now).now.schema ≡ no_schema
-    → IsReady c.args.version (state g.S.Store c.make_event.new.tx.conn.now) c.args.event.now 0
-    × ((state g.S.Store c.make_event.new.tx.conn.now).now.schema ≡ tally_schema (made_players c.args.version))
-ready g c late none =
-    let readies = rw c.transaction-tx.ensures.begun at (c.in_ok-make_event.ensures.readies) in
-    readies none (was_clean c.commit.ensures.survives late)
-
-pub returns-clause-created : goal.returns-clause-created
-returns-clause-created g c clean none =
+-- in an empty file the five stand alone
+pub returns-clause-alone : goal.returns-clause-alone
+returns-clause-alone g c clean none =
     let same : c.commit.new.self.0 ≡ c.conn-2-1.given.0 = search rules in
     let late = rw (← same) at clean in
-    rw (← same) (on_ok_weaker c.commit.result (λ done. (
-      written (ready g c late none).0 done.1,
-      ap (λ (d : Database). d.schema) done.1.now_is ∙ (ready g c late none).1,
-    )) (c.commit.ensures.ok late))
-
-pub returns-clause-acknowledged : goal.returns-clause-acknowledged
-returns-clause-acknowledged g c none = on_ok_later _ _ c.commit.result (λ clean.
-    on_ok_weaker c.commit.result (λ shown. shows_leaves_in c.args.version (state g.S.Store c.conn-2-1.given.0) _ _
-    (λ db is_open may. g.met.S.Store.settled c.conn-2-1.given.0.store db is_open may) shown.0) (returns-clause-created g c clean none))
-
-pub returns-clause-crash : goal.returns-clause-crash
-returns-clause-crash g c none clean trees may =
-    let start : State = record (state g.S.Store c.args.conn.now) { in_transaction = true } in
-    let same : c.commit.new.self.0 ≡ c.conn-2-1.given.0 = search rules in
-    let late = rw (← same) at clean in
-    leaves_either (ready g c late none).0 start start.may_leave (λ db left. left)
-    (rw c.transaction-tx.ensures.begun at c.make_event.ensures.lends.stays.survives)
-    c.commit.ensures.survives late trees (rw (← same) at may)
+    let alone = rw c.transaction-tx.ensures.begun at (c.in_ok-make_event.ensures.alone) in
+    rw (← same) (on_ok_weaker c.commit.result
+    (λ done. ap (λ (d : Database). d.schema) done.1.now_is ∙ alone none (was_clean c.commit.ensures.survives late)) (c.commit.ensures.ok late))
 
 -- ---- whatever stood before
 
