@@ -53,7 +53,7 @@ sorted_rows Keyed cmp order agrees outs keyed sorted k d low high =
     ∙ (agrees (get_or outs (k + 1) e) (get_or outs k e) next here ∙ sorted k e low len)
 
 -- so what is shown of an answer is listed by it
-shows_sorted : (q : Query) (Keyed : Output → Type 0) (order : Row → Row → Ordering)
+pub shows_sorted : (q : Query) (Keyed : Output → Type 0) (order : Row → Row → Ordering)
     → ((o p : Output) → Keyed o → Keyed p → is_lt (order o.1 p.1) ≡ is_lt (output_cmp q o p)) → (all : List Output)
     {kept ordered : List Output} {shown rows : List Row} → kept ≡ all → AllByRecursion Keyed all → map (λ (o : Output). o.1) all ≡ shown
     → IsPermutation kept ordered → IsSorted (output_cmp q) ordered → rows ≡ map (λ (o : Output). o.1) ordered → Lists order shown rows
@@ -92,7 +92,7 @@ first_agrees : (o p : Output) → column o.0 0 ≡ column o.1 0 → column p.0 0
     → is_lt (by_first o.1 p.1) ≡ is_lt (ordering_then (value_cmp (column o.0 0) (column p.0 0)) Rattle.std.proofs.Common.Equal)
 first_agrees o p a b = grind (arith, common_steps)
 
-two_agree : (o p : Output) → (column o.0 0 ≡ column o.1 0) × (column o.0 1 ≡ column o.1 1)
+pub two_agree : (o p : Output) → (column o.0 0 ≡ column o.1 0) × (column o.0 1 ≡ column o.1 1)
     → (column p.0 0 ≡ column p.1 0) × (column p.0 1 ≡ column p.1 1) → is_lt (by_first_two o.1 p.1)
     ≡ is_lt (ordering_then (value_cmp (column o.0 0) (column p.0 0))
     (ordering_then (value_cmp (column o.0 1) (column p.0 1)) Rattle.std.proofs.Common.Equal))

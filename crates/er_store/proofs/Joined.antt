@@ -69,7 +69,7 @@ module _ (test : Row → Bool) (lows : Row → List Row) (highs : Row → List R
 -- ---- the rows of the query
 
 -- those whose number is this value, or one of NULLs
-abbrev numbered_as : Value → List Row → List Row
+abbrev pub numbered_as : Value → List Row → List Row
 numbered_as n rows = or_nulls (filter (λ r. is_true (binary (Compare Eq Binary) (column r 0) n) && true) rows)
 
 abbrev pub asks : Row → Row → Bool

@@ -8,6 +8,7 @@ mod Together
 mod Listing
 mod Updates
 mod Slipping
+mod MeetingText
 mod Adding
 mod Sizes
 mod Setting
@@ -20,7 +21,6 @@ mod Keyed
 mod SlipLemmas
 mod Joined
 mod Meetings
-mod Joining
 mod Selecting
 mod Crash
 mod Growing

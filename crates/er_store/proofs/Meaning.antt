@@ -1,8 +1,9 @@
 -- What the texts mean: the terms of their queries.
 use Rattle.er_store.proofs.Prelude.{◌≡◌, ◌==◌, ◌∙◌, ◌++◌, ◌∷◌, [], if◌then◌else◌, ℕ, List, pos, false, is_ok, map, refl, sym, true≢false}
-use Rattle.er_store.proofs.Prelude.{Schema, Term, col, Query, Command, Null, Int, Binary, Compare, Eq, ToNumeric, IsPlain, command_of}
+use Rattle.er_store.proofs.Prelude.{Schema, Term, col, Query, Command, Null, Int, Binary, Compare, Eq, Gt, ToNumeric, IsPlain, command_of}
 use Rattle.er_store.proofs.Prelude.{CanRead, player_places, player2_places, no_schema, understood, listing_schema, everything}
 use Rattle.sqlite.specs.{Term.{lit, op1, op2}, Query.{Join, inner, left, end}}
+use Rattle.sqlite_sql.specs.declared.ops.BinaryOp.TheVariants.{Coalesce}
 use Rattle.er_store.specs.{inside.Queries.plain_query, Tables.find_event}
 
 abbrev pub player_terms : List Term
@@ -83,6 +84,21 @@ slip_terms = col 1 1 ∷ col 1 2 ∷ col 1 3 ∷ col 1 4 ∷ col 1 5 ∷ col 1 6
 -- only the match of the round and the table that are given passes
 abbrev pub slip_query : ℕ → ℕ → Query
 slip_query pairings players = plain_query (slip_from pairings players) score_tests slip_terms
+
+-- the pairings of the one tree, each with the totals of `lo`, if there are any, and of `hi`, out of the other
+abbrev pub meeting_terms : List Term
+meeting_terms =
+    col 1 1 ∷ col 1 2 ∷ col 1 6 ∷ col 2 0 ∷ col 2 2 ∷ col 2 3 ∷ col 2 4 ∷ col 2 5 ∷ col 3 0 ∷ col 3 2 ∷ col 3 3 ∷ col 3 4 ∷ col 3 5 ∷ []
+
+-- no bye passes
+abbrev pub meeting_tests : List Term
+meeting_tests = op2 (Compare Gt Binary) (op2 Coalesce (col 1 3) (lit Null)) (lit (Int (pos 0))) ∷ []
+
+-- by round and table
+abbrev pub meeting_query : ℕ → ℕ → Query
+meeting_query pairings totals = record (plain_query (slip_from pairings totals) meeting_tests meeting_terms) {
+  order = map (λ place. (col 1 place, record { collation = Binary; descending = false })) (1 ∷ 2 ∷ []);
+}
 
 -- the text is this command of the schema
 pub record Means (sql : List ℕ) (command : Command) (schema : Schema) : Type 0 where

@@ -99,7 +99,7 @@ pub use Rattle.er_store.specs.Reading.{first_columns, Lists, IsReadRefused, by_f
 pub use Rattle.er_store.specs.Rows.{number_value, at_places, player_shown, pairing_columns, bracket_columns, tally_columns, pairing_places}
 pub use Rattle.er_store.specs.Rows.{event_places}
 pub use Rattle.er_store.specs.Rows.{player_places, tally_places, stored_player, stored_pairing, stored_slot, stored_tally}
-pub use Rattle.er_store.specs.Rows.{player_columns, bracket_places, event_columns, stored_event, named_columns}
+pub use Rattle.er_store.specs.Rows.{player_columns, bracket_places, event_columns, stored_event, named_columns, meeting_columns}
 pub use Rattle.er_store.specs.Shape.{Form, Shape}
 pub use Rattle.er_store.specs.Slip.{match_of_slip, is_swapped, Side, number_of_side, name_of_side, named_pairing, IsPlayer, IsLawfulSlip}
 pub use Rattle.er_store.specs.Slip.{named_pairings}
@@ -115,7 +115,7 @@ pub use Rattle.er_store.specs.Tables.{read_players, read_pairings, read_bracket,
 pub use Rattle.er_store.specs.Tables.{player2, tally_schema, insert_player2, set_dropped2, read_players2, read_slip2}
 pub use Rattle.er_store.specs.Tables.{read_players_of, read_slip_of}
 pub use Rattle.er_store.specs.Rows.{player2_places, stored_player2}
-pub use Rattle.er_store.specs.declared.tallies.MeetingRow.{MeetingRow}
+pub use Rattle.er_store.specs.declared.rows.MeetingRow.{MeetingRow}
 pub use Rattle.er_store.specs.declared.rows.NamedPairing.{NamedPairing}
 pub use Rattle.er_store.specs.inside.Lookup.{begins_select}
 pub use Rattle.er_store.specs.inside.Meetings.{is_outside, sides_in, meeting_rows, complete_rows, sides_of}

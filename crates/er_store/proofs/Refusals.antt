@@ -11,7 +11,7 @@ use Rattle.sqlite.specs.{State.{IsNoStatement, store_error}, Program.ProgramOver
 use Rattle.sqlite.proofs.Callers.{reads_as}
 use Rattle.sqlite_trees.specs.{declared.error.StoreError.StoreError, declared.error.StoreError.TheVariants.OutOfMemory}
 use Rattle.sqlite_schema.specs.declared.command.Command.TheVariants.{Rows}
-use Rattle.er_store.proofs.{Meaning.slip_query, Selecting.never_returns}
+use Rattle.er_store.proofs.{Meaning.{slip_query, meeting_query}, Selecting.never_returns}
 use Rattle.er_store.specs.Damage.{Answered, IsUnread, IsRefused, IsMisreadAs, MayRead}
 use Rattle.sqlite.specs.declared.error.ErrorCode.TheVariants as code
 
@@ -59,6 +59,15 @@ pub slip_refused : (pairings players : ℕ) (params : Row) {sql : List ℕ} (old
     → SelectsWith params sql (slip_query pairings players) old.now.schema → FailsToQuery sql params old new e → IsReadRefused old new e
 slip_refused pairings players params old new e =
     query_refused (slip_query pairings players) params (slip_sums pairings players params) old new e
+
+-- nor that of the meetings
+meeting_sums : (pairings totals : ℕ) (trees : Trees) → ¬ ProgramOverflows trees [] [] [] (meeting_query pairings totals)
+meeting_sums pairings totals trees (inl sum) = sum
+meeting_sums pairings totals trees (inr fold) = fold.4.4.4
+
+pub meetings_refused : (pairings totals : ℕ) {sql : List ℕ} (old new : State) (e : Error)
+    → Selects sql (meeting_query pairings totals) old.now.schema → FailsToQuery sql [] old new e → IsReadRefused old new e
+meetings_refused pairings totals old new e = query_refused (meeting_query pairings totals) [] (meeting_sums pairings totals) old new e
 
 -- ---- what a refusal of a read says of the file, whatever its schema is
 

@@ -1,14 +1,16 @@
--- A SELECT changes nothing, whatever the schema is.
+-- A SELECT changes nothing, whatever the schema is, and its rows may be read one at a time.
 use Rattle.er_store.proofs.Prelude.{arith, common_steps, ◌≡◌, inl, inr, ℕ, List, true, Ok, Err, None, refl, sym, ap, subst, Command}
 use Rattle.er_store.proofs.Prelude.{Compiled, first, Schema, Row, Error, timed, State, Survives, ShowsRows, IsUnchanged, KeepsTables}
 use Rattle.er_store.proofs.Prelude.{begins_select, read_event, read_players, read_pairings, read_bracket, read_tallies}
 use Rattle.er_store.proofs.Prelude.{read_slip, understood, listing_schema, CommitsShowing, Shown, FailsToQuery, IsNotRun, everything}
-use Rattle.er_store.proofs.Prelude.{read_players2, read_slip2, read_slip_of, Bool, false, ◌==◌, if◌then◌else◌}
+use Rattle.er_store.proofs.Prelude.{read_players2, read_slip2, read_slip_of, Bool, false, ◌==◌, if◌then◌else◌, [], ◌∷◌, ◌++◌, map, Result}
+use Rattle.er_store.proofs.Prelude.{HasGiven, Held, state, Query, Trees, command_of, Ghosts, CompileError, IsReadRefused, Selects}
+use Rattle.er_store.specs.Tables.{read_meetings}
 use Rattle.sqlite_ast.specs.declared.Statement.{Statement}
 use Rattle.sqlite_syntax.specs.declared.statement.Parsed.{Parsed}
 use Rattle.sqlite_resolve.specs.{Compile.{planned, meaning, returning, compiled, with_command}, Lowering.{Checked, and_then}}
-use Rattle.sqlite.specs.{Listing.if_select}
-use Rattle.sqlite.proofs.{StateLemmas.survives_weaker}
+use Rattle.sqlite.specs.{Listing.if_select, Given.{Returns, HasBegun}}
+use Rattle.sqlite.proofs.{StateLemmas.survives_weaker, Callers.{begins_shown, given_begin}}
 use Rattle.er_store.specs.inside.Lookup.{is_select_by}
 use Rattle.er_store.proofs.LoadLemmas.{unchanged_keeps, refused_keeps}
 use Rattle.sqlite_ast.specs.declared.Statement.TheVariants as written
@@ -23,6 +25,7 @@ pub record AreSelects : Type 0 where
   pub pairings : begins_select (first read_pairings) ≡ true
   pub bracket : begins_select (first read_bracket) ≡ true
   pub tallies : begins_select (first read_tallies) ≡ true
+  pub meetings : begins_select (first read_meetings) ≡ true
   pub slip : begins_select (first read_slip) ≡ true
   pub slip2 : begins_select (first read_slip2) ≡ true
 
@@ -35,6 +38,7 @@ selects = record {
   pairings = refl;
   bracket = refl;
   tallies = refl;
+  meetings = refl;
   slip = refl;
   slip2 = refl;
 }
@@ -93,3 +97,41 @@ unfolding FailsToQuery IsNotRun
 fails_keeping sql params old new e is (inl (inl none)) = unchanged_keeps old new none.1
 fails_keeping sql params old new e is (inl (inr fails)) = refused_keeps old new e (inl fails)
 fails_keeping sql params old new e is (inr (c, s, shows)) = grind (arith, common_steps)
+
+-- ---- the query begins
+
+shows-none : (sql : List ℕ) (schema : Schema) → begins_select (first sql) ≡ true → (r : Result Compiled CompileError)
+    → understood schema sql ≡ r → Returns r → ⊥
+shows-none sql schema select (Ok c) is some = let none = never_returns schema sql c select is in absurd (let both = rw none at some in cc)
+shows-none sql schema select (Err e) is some = absurd some
+
+pub begun-select : {S : Type 0} (g : Ghosts S) (sql : List ℕ) (params : Row) (old new : Held S) → begins_select (first sql) ≡ true
+    → HasBegun g sql params old new → HasGiven g sql params new [] × IsUnchanged (state g old) (state g new)
+begun-select g sql params old new select (inl begun) = begun
+begun-select g sql params old new select (inr shown) = absurd (shows-none sql old.schema select (understood old.schema sql) refl shown.0)
+
+-- ---- a row of the answer
+
+pub row-among : {T : Type 0} (columns : T → Row) (given tail : List Row) (row : Row) (all : List T)
+    → (given ++ row ∷ []) ++ tail ≡ map columns all → (r : T) × (row ≡ columns r)
+row-among columns [] tail row [] same = absurd (cc)
+row-among columns [] tail row (r ∷ all) same = let here : row ≡ columns r = cc in (r, here)
+row-among columns (x ∷ given) tail row [] same = absurd (cc)
+row-among columns (x ∷ given) tail row (r ∷ all) same = let rest : (given ++ row ∷ []) ++ tail ≡ map columns all = cc in
+    row-among columns given tail row all rest
+
+-- the rows so far begin an answer, as the statement has no recursion
+pub given-shown : {S : Type 0} (g : Ghosts S) (sql : List ℕ) (q : Query) (now : Held S) (given : List Row) → Selects sql q now.schema
+    → IsUnchanged (state g now) (state g now) → HasGiven g sql [] now given
+    → (tail : List Row) × Shown sql [] (state g now) (state g now) (given ++ tail)
+given-shown g sql q now given it same has = grind (arith, common_steps, begins_shown, command_of, given_begin)
+
+-- ---- a refusal after an unchanged start
+
+pub unchanged-refl : (a b : State) → IsUnchanged a b → IsUnchanged b b
+unchanged-refl a b same = grind (arith, common_steps)
+
+pub refused-after : (a b c : State) (P : Trees → Type 0) (e : Error) → IsUnchanged a b → Survives a b P → IsReadRefused b c e
+    → IsReadRefused a c e
+refused-after a b c P e same survives (inl fails) = grind (arith, common_steps)
+refused-after a b c P e same survives (inr stopped) = grind (arith, common_steps)

@@ -67,11 +67,11 @@ st next n last = record { next = next; steps = []; aggregates = []; budget = n; 
 module _ (schema : Schema) (b : Bound) (table : Table) (is : slice_get schema.tables b.table ≡ Some table) (mine : List ℕ) (k : ℕ)
     (c : Column) (name : List ℕ)
     (named : column_named table name ≡ Some k) (unshared : b.shared ≡ []) where
-  hits : same_name b.name mine ≡ true → scope.hit schema (Some mine) name false b ≡ Some (found.Column b.slot b.table k)
+  pub hits : same_name b.name mine ≡ true → scope.hit schema (Some mine) name false b ≡ Some (found.Column b.slot b.table k)
   unfolding scope.hit scope.column_in scope.is_among
   hits same = rw (same, is, named)
 
-misses : (schema : Schema) (b : Bound) (mine name : List ℕ) → same_name b.name mine ≡ false
+pub misses : (schema : Schema) (b : Bound) (mine name : List ℕ) → same_name b.name mine ≡ false
     → scope.hit schema (Some mine) name false b ≡ None
 unfolding scope.hit
 misses schema b mine name other = rw other
@@ -90,19 +90,19 @@ module _ (schema : Schema) (a b c : Bound) (mine name : List ℕ) (slot at k : �
   abbrev three : List Bound
   three = a ∷ b ∷ c ∷ []
 
-  leads : scope.hit schema (Some mine) name false a ≡ Some (found.Column slot at k) → same_name b.name mine ≡ false
+  pub leads : scope.hit schema (Some mine) name false a ≡ Some (found.Column slot at k) → same_name b.name mine ≡ false
       → same_name c.name mine ≡ false
       → scope.only schema (Some mine) name false three ≡ Ok (Some (found.Column slot at k))
   unfolding scope.only
   leads hit other none = rw (hit, misses schema b mine name other, misses schema c mine name none)
 
-  middle : same_name a.name mine ≡ false → scope.hit schema (Some mine) name false b ≡ Some (found.Column slot at k)
+  pub middle : same_name a.name mine ≡ false → scope.hit schema (Some mine) name false b ≡ Some (found.Column slot at k)
       → same_name c.name mine ≡ false
       → scope.only schema (Some mine) name false three ≡ Ok (Some (found.Column slot at k))
   unfolding scope.only
   middle other hit none = rw (misses schema a mine name other, hit, misses schema c mine name none)
 
-  third : same_name a.name mine ≡ false → same_name b.name mine ≡ false
+  pub third : same_name a.name mine ≡ false → same_name b.name mine ≡ false
       → scope.hit schema (Some mine) name false c ≡ Some (found.Column slot at k)
       → scope.only schema (Some mine) name false three ≡ Ok (Some (found.Column slot at k))
   unfolding scope.only
@@ -122,25 +122,25 @@ module _ (schema : Schema) (bs : List Bound) (table : Table) (mine name : List �
   unfolding scope.column scope.term_of scope.column_at
   column_at next n l = rw (find_at, is, there)
 
-  lowered_at : (e : Expr) → out-Expr e ≡ Expr-F.Column (Some mine) name → (next n : ℕ) (l : Carried) → nat_lt 1 n ≡ true
+  pub lowered_at : (e : Expr) → out-Expr e ≡ Expr-F.Column (Some mine) name → (next n : ℕ) (l : Carried) → nat_lt 1 n ≡ true
       → lower (cx schema bs columns may alias) e (st next n l) ≡ Ok
       (col slot (place_of table k), st next (n - 1) (scope.declared table k c))
   unfolding everything
   lowered_at e reads next n l enough = rw (enough, reads, column_at next (n - 1) (record { collation = None; is_written = false }))
 
-  heading_at : (e : Expr) (text : List ℕ) → out-Expr e ≡ Expr-F.Column (Some mine) name
+  pub heading_at : (e : Expr) (text : List ℕ) → out-Expr e ≡ Expr-F.Column (Some mine) name
       → heading (cx schema bs columns may alias) e text ≡ c.name
   unfolding heading declared
   heading_at e text reads = rw (reads, find_at, is, there)
 
 -- ---- the slip's terms
 
-abbrev slip_bounds : ℕ → ℕ → List Bound
+abbrev pub slip_bounds : ℕ → ℕ → List Bound
 slip_bounds p q =
     record { name = codes "p"; table = p; slot = 1; shared = [] } ∷ record { name = codes "l"; table = q; slot = 2; shared = [] }
     ∷ record { name = codes "h"; table = q; slot = 3; shared = [] } ∷ []
 
-abbrev equals : Term → Term → Term
+abbrev pub equals : Term → Term → Term
 equals x y = op2 (Compare Eq Binary) x y
 
 -- the table of players: that of version 2, or that of version 1
@@ -177,32 +177,32 @@ module _ (schema : Schema) (p q s t : ℕ) (pairings : slice_get schema.tables p
   where_slip shown e a b c x d y ise isa isc isx isb isd isy = simp (ise, isa, isc, isx, isb, isd, isy, pairings)
 
 -- the name of a column, after that of its table
-abbrev Named : Type 0
+abbrev pub Named : Type 0
 Named = List ℕ × List ℕ
 
 -- a column is found by its name
-record Finds (schema : Schema) (bs : List Bound) (n : Named) (o : Output) : Type 0 where
-  table : Table
-  slot : ℕ
-  at : ℕ
-  k : ℕ
-  c : Column
-  only : scope.only schema (Some n.0) n.1 false bs ≡ Ok (Some (found.Column slot at k))
-  is : slice_get schema.tables at ≡ Some table
-  there : slice_get table.columns k ≡ Some c
-  output : o
+pub record Finds (schema : Schema) (bs : List Bound) (n : Named) (o : Output) : Type 0 where
+  pub table : Table
+  pub slot : ℕ
+  pub at : ℕ
+  pub k : ℕ
+  pub c : Column
+  pub only : scope.only schema (Some n.0) n.1 false bs ≡ Ok (Some (found.Column slot at k))
+  pub is : slice_get schema.tables at ≡ Some table
+  pub there : slice_get table.columns k ≡ Some c
+  pub output : o
       ≡ record { name = c.name; is_alias = false; is_column = true; term = col slot (place_of table k); carried = scope.declared table k c }
 
 -- and shown by it
-abbrev IsColumn : Shown → Named → Type 0
+abbrev pub IsColumn : Shown → Named → Type 0
 IsColumn s n =
     (e : Expr) × (text : List ℕ) × (out-Shown s ≡ Shown-F.One e None text) × (out-Expr e ≡ Expr-F.Column (Some n.0) n.1)
 
-column_is : (e : Expr) (mine name : List ℕ) → out-Expr e ≡ Expr-F.Column (Some mine) name → is_column e ≡ true
+pub column_is : (e : Expr) (mine name : List ℕ) → out-Expr e ≡ Expr-F.Column (Some mine) name → is_column e ≡ true
 unfolding is_column
 column_is e mine name reads = rw reads
 
-one_shown : (schema : Schema) (bs : List Bound) (s : Shown) (n : Named) (o : Output) → IsColumn s n → Finds schema bs n o
+pub one_shown : (schema : Schema) (bs : List Bound) (s : Shown) (n : Named) (o : Output) → IsColumn s n → Finds schema bs n o
     → (done : List Output)
     (next budget : ℕ) (l : Carried) → nat_lt 1 budget ≡ true
     → shown lower (cx schema bs [] true true) bs done s (st next budget l) ≡ Ok (done ++ o ∷ [], st next (budget - 1) o.carried)
@@ -215,31 +215,31 @@ one_shown schema bs s n o (e, text, shows, reads) h done next budget l enough = 
   column_is e n.0 n.1 reads,
 )
 
-abbrev AreColumns : List Shown → List Named → Type 0
+abbrev pub AreColumns : List Shown → List Named → Type 0
 AreColumns [] [] = Unit {0}
 AreColumns [] (n ∷ ns) = ⊥
 AreColumns (s ∷ ss) [] = ⊥
 AreColumns (s ∷ ss) (n ∷ ns) = IsColumn s n × AreColumns ss ns
 
-abbrev AllFound : Schema → List Bound → List Named → List Output → Type 0
+abbrev pub AllFound : Schema → List Bound → List Named → List Output → Type 0
 AllFound schema bs [] [] = Unit {0}
 AllFound schema bs [] (o ∷ os) = ⊥
 AllFound schema bs (n ∷ ns) [] = ⊥
 AllFound schema bs (n ∷ ns) (o ∷ os) = Finds schema bs n o × AllFound schema bs ns os
 
-abbrev Enough : ℕ → List Output → Type 0
+abbrev pub Enough : ℕ → List Output → Type 0
 Enough n [] = Unit {0}
 Enough n (o ∷ os) = (nat_lt 1 n ≡ true) × Enough (n - 1) os
 
-abbrev budget_after : ℕ → List Output → ℕ
+abbrev pub budget_after : ℕ → List Output → ℕ
 budget_after n [] = n
 budget_after n (o ∷ os) = budget_after (n - 1) os
 
-abbrev last_after : Carried → List Output → Carried
+abbrev pub last_after : Carried → List Output → Carried
 last_after l [] = l
 last_after l (o ∷ os) = last_after o.carried os
 
-all_shown : (schema : Schema) (bs : List Bound) (ss : List Shown) (ns : List Named) (os : List Output) → AreColumns ss ns
+pub all_shown : (schema : Schema) (bs : List Bound) (ss : List Shown) (ns : List Named) (os : List Output) → AreColumns ss ns
     → AllFound schema bs ns os
     → (done : List Output) (next n : ℕ) (l : Carried) → Enough n os
     → outputs_from lower (cx schema bs [] true true) bs done ss (st next n l) ≡ Ok
@@ -255,19 +255,19 @@ all_shown schema bs (s ∷ ss) (x ∷ ns) (o ∷ os) are all done next n l enoug
 )
     (ap (λ x. Ok (x, st next (budget_after (n - 1) os) (last_after o.carried os))) (append_assoc done (o ∷ []) os))
 
-record IsSource (s : Source) (name alias : List ℕ) (left : Bool) (on : Option Expr) : Type 0 where
-  origin : (out-Source s).origin ≡ origin.Table name
-  alias_is : (out-Source s).alias ≡ Some alias
-  using : (out-Source s).using ≡ []
-  on_is : (out-Source s).on ≡ on
-  side : (out-Source s).is_left ≡ left
+pub record IsSource (s : Source) (name alias : List ℕ) (left : Bool) (on : Option Expr) : Type 0 where
+  pub origin : (out-Source s).origin ≡ origin.Table name
+  pub alias_is : (out-Source s).alias ≡ Some alias
+  pub using : (out-Source s).using ≡ []
+  pub on_is : (out-Source s).on ≡ on
+  pub side : (out-Source s).is_left ≡ left
 
-record IsEqual (e : Expr) (mine name other column : List ℕ) : Type 0 where
-  a : Expr
-  b : Expr
-  is : out-Expr e ≡ Expr-F.Binary binary.Eq a b
-  left : out-Expr a ≡ Expr-F.Column (Some mine) name
-  right : out-Expr b ≡ Expr-F.Column (Some other) column
+pub record IsEqual (e : Expr) (mine name other column : List ℕ) : Type 0 where
+  pub a : Expr
+  pub b : Expr
+  pub is : out-Expr e ≡ Expr-F.Binary binary.Eq a b
+  pub left : out-Expr a ≡ Expr-F.Column (Some mine) name
+  pub right : out-Expr b ≡ Expr-F.Column (Some other) column
 
 record IsGiven (e : Expr) (name : List ℕ) (n : ℕ) : Type 0 where
   a : Expr
@@ -411,16 +411,16 @@ module _ (schema : Schema) (p q s t : ℕ) (second : Bool) (pairings : IsThere s
 
 -- ---- the columns of the slip
 
-abbrev bp : ℕ → Bound
+abbrev pub bp : ℕ → Bound
 bp p = record { name = codes "p"; table = p; slot = 1; shared = [] }
 
-abbrev bl : ℕ → Bound
+abbrev pub bl : ℕ → Bound
 bl q = record { name = codes "l"; table = q; slot = 2; shared = [] }
 
-abbrev bh : ℕ → Bound
+abbrev pub bh : ℕ → Bound
 bh q = record { name = codes "h"; table = q; slot = 3; shared = [] }
 
-abbrev of_match : ℕ → ℕ → Column → Output
+abbrev pub of_match : ℕ → ℕ → Column → Output
 of_match s k c =
     record {
       name = c.name;
@@ -457,9 +457,14 @@ unfolding everything
 name_place true t = refl
 name_place false t = refl
 
-module _ (schema : Schema) (p q s t : ℕ) (second : Bool) (pairings : slice_get schema.tables p ≡ Some (pairing s))
-    (players : slice_get schema.tables q ≡ Some (who second t)) where
-  in_match : (k : ℕ) (c : Column) → column_named (pairing s) c.name ≡ Some k → slice_get (pairing s).columns k ≡ Some c
+module _ (schema : Schema) (p q s : ℕ) (pairings : slice_get schema.tables p ≡ Some (pairing s)) where
+  pub match_only : (k : ℕ) (c : Column) → column_named (pairing s) c.name ≡ Some k
+      → scope.only schema (Some (codes "p")) c.name false (slip_bounds p q) ≡ Ok (Some (found.Column 1 p k))
+  unfolding everything
+  match_only k c found_at = leads schema (bp p) (bl q) (bh q) (codes "p") c.name 1 p k
+      (hits schema (bp p) (pairing s) pairings (codes "p") k c c.name found_at refl refl) refl refl
+
+  pub in_match : (k : ℕ) (c : Column) → column_named (pairing s) c.name ≡ Some k → slice_get (pairing s).columns k ≡ Some c
       → Finds schema (slip_bounds p q) (codes "p", c.name) (of_match s k c)
   unfolding everything
   in_match k c found_at there = record {
@@ -468,13 +473,13 @@ module _ (schema : Schema) (p q s t : ℕ) (second : Bool) (pairings : slice_get
     at = p;
     k = k;
     c = c;
-    only = leads schema (bp p) (bl q) (bh q) (codes "p") c.name 1 p k
-        (hits schema (bp p) (pairing s) pairings (codes "p") k c c.name found_at refl refl) refl refl;
+    only = match_only k c found_at;
     is = pairings;
     there = there;
     output = refl;
   }
 
+module _ (schema : Schema) (p q s t : ℕ) (second : Bool) (players : slice_get schema.tables q ≡ Some (who second t)) where
   placed_at : (slot : ℕ) → of_player second t slot
       ≡ record {
         name = codes "name";
@@ -535,7 +540,7 @@ slip_found : (schema : Schema) (p q s t : ℕ) (second : Bool) → slice_get sch
     → slice_get schema.tables q ≡ Some (who second t) → AllFound schema (slip_bounds p q) slip_names (slip_columns second s t)
 unfolding everything
 slip_found schema p q s t second pairings players =
-    let one = in_match schema p q s t second pairings players in (
+    let one = in_match schema p q s pairings in (
       one 0 (number_column (codes "round")) refl refl,
       (
         one 1 (number_column (codes "tab")) refl refl,
@@ -554,8 +559,8 @@ slip_found schema p q s t second pairings players =
                     (
                       one 8 (number_column (codes "d")) refl refl,
                       (
-                        in_low schema p q s t second pairings players,
-                        (in_high schema p q s t second pairings players, tt),
+                        in_low schema p q s t second players,
+                        (in_high schema p q s t second players, tt),
                       ),
                     ),
                   ),

@@ -91,10 +91,10 @@ module _ {table : ℕ → Table} {old new : State} (made : MakesTable table old 
         let read = read_behind made.grows anywhere made.goes.sound in
         let before : AllByRecursion (λ (t : Table). AllByRecursion (LeadsOff (table next ∷ tables) front) t.references) front =
         all_weaker _ _ (λ t all. all_weaker _ _ (λ ref leads key is.
-          let it = key_listed front ref key is in (
-            λ same. let low = table_below old.now.schema it.0 it.1 in let own = own_tree in let tree = it.3 in omega (arith, same, low, own, tree),
-            leads key is,
-          )) t.references all) front stand.apart in
+        let it = key_listed front ref key is in (
+          λ same. let low = table_below old.now.schema it.0 it.1 in let own = own_tree in let tree = it.3 in omega (arith, same, low, own, tree),
+          leads key is,
+        )) t.references all) front stand.apart in
         let others : AllByRecursion (λ (t : Table). AllByRecursion (λ ref. AllByRecursion
         (λ (m : Table). (same_name m.name ref.parent ≡ false) ⊎ IsOff (table next ∷ tables) m.tree) behind) t.references) front =
         all_weaker _ _ (λ t all. all_weaker _ _ (λ ref no. (

@@ -9,7 +9,7 @@ use Rattle.er_event.specs.declared.rows.pairing.PairingRow.{PairingRow}
 use Rattle.er_event.specs.declared.rows.bracket.BracketRow.{BracketRow}
 use Rattle.er_event.specs.declared.rows.tally.TallyRow.{TallyRow}
 use Rattle.er_event.specs.Event.{EventValue}
-use Rattle.er_store.specs.declared.rows.NamedPairing.{NamedPairing}
+use Rattle.er_store.specs.declared.rows.{MeetingRow.MeetingRow, NamedPairing.NamedPairing}
 use Rattle.er_event.specs.Rows.{flag, phase_code}
 
 abbrev pub number_value : ℕ → Value
@@ -34,6 +34,10 @@ bracket_columns r = Int r.stage ∷ Int r.slot ∷ Int r.a ∷ Int r.b ∷ Int r
 -- no, points, rounds, gamepoints, games
 abbrev pub tally_columns : TallyRow → Row
 tally_columns r = Int r.no ∷ Int r.points ∷ Int r.rounds ∷ Int r.gamepoints ∷ Int r.games ∷ []
+
+-- round, tab, done, and the totals of lo and hi
+abbrev pub meeting_columns : MeetingRow → Row
+meeting_columns r = Int r.round ∷ Int r.tab ∷ Int r.done ∷ tally_columns r.lo ++ tally_columns r.hi
 
 abbrev pub text_or_null : Option (List ℕ) → Value
 text_or_null None = Null

@@ -292,6 +292,10 @@ read_slip = codes "SELECT p.round, p.tab, p.lo, p.hi, p.swapped, p.done, p.x, p.
 abbrev pub read_slip2 : List ℕ
 read_slip2 = codes "SELECT p.round, p.tab, p.lo, p.hi, p.swapped, p.done, p.x, p.y, p.d, l.name, h.name FROM pairing AS p LEFT JOIN player2 AS l ON l.no = p.lo LEFT JOIN player2 AS h ON h.no = p.hi WHERE p.round = ?1 AND p.tab = ?2"
 
+-- the matches of two players, with the totals of the two; the plus has them read in the order of their key
+abbrev pub read_meetings : List ℕ
+read_meetings = codes "SELECT p.round, p.tab, p.done, l.no, l.points, l.rounds, l.gamepoints, l.games, h.no, h.points, h.rounds, h.gamepoints, h.games FROM pairing AS p LEFT JOIN tally AS l ON l.no = p.lo LEFT JOIN tally AS h ON h.no = p.hi WHERE +p.lo > 0 ORDER BY p.round, p.tab"
+
 -- the statements that read players, in tables of a version
 abbrev pub read_players_of : ℕ → List ℕ
 read_players_of version = if version == 2 then read_players2 else read_players

@@ -244,7 +244,7 @@ impl<S: Alter> Store<S> {
         if self.needs_reopen {
             return Err(Refusal::NeedsReopen);
         }
-        let read = find_meetings(alloc, &mut self.conn, self.version);
+        let read = find_meetings(alloc, &mut self.conn);
         self.needs_reopen = read.is_err();
         read
     }

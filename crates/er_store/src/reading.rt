@@ -6,15 +6,16 @@ ghost use Rattle.er_event.specs.Sound.{IsSoundButForSeeds};
 ghost use Rattle.er_event.specs.declared.refusals.Place.{Place};
 ghost use Rattle.er_event.specs.declared.refusals.Refusal.{Refusal};
 ghost use Rattle.er_store.specs.Layout.{Layout};
-ghost use Rattle.er_store.specs.Representing.{RepresentsAt, RepresentsIn};
+ghost use Rattle.er_store.specs.Representing.{Represents, RepresentsAt, RepresentsIn};
 ghost use Rattle.er_store.specs.Tables.{read_slip_of};
 ghost use Rattle.er_store.specs.Damage.{IsMisreadAs};
 ghost use Rattle.er_store.specs.Fault.{reading_refusal, IsLoadFault};
 ghost use Rattle.er_store.specs.Slip.{named_pairings};
 ghost use Rattle.er_store.specs.inside.Looking.{OnlyLooks, FindsBy, FailsToRead};
 ghost use Rattle.er_store.specs.inside.Lookup.{IsOurs, FindsRows};
+ghost use Rattle.er_store.specs.inside.Meetings.{meeting_rows};
 
-use crate::rows::{NamedPairing, typed_rows};
+use crate::rows::{MeetingRow, NamedPairing, push_row, typed_rows};
 use crate::tables::TableRow;
 use er_event::{Cause, Place, Refusal};
 use sqlite::{Alter, Connection, Error, ErrorCode, params};
@@ -74,6 +75,29 @@ pub fn read_slip<S: Alter>(
 {
     let rows = conn.query_all(slip_text(version), params![round, table])?;
     typed_rows(alloc, &rows)
+}
+
+pub const READ_MEETINGS: &str =
+    "SELECT p.round, p.tab, p.done, l.no, l.points, l.rounds, l.gamepoints, l.games, h.no, h.points, h.rounds, h.gamepoints, h.games FROM pairing AS p LEFT JOIN tally AS l ON l.no = p.lo LEFT JOIN tally AS h ON h.no = p.hi WHERE +p.lo > 0 ORDER BY p.round, p.tab";
+
+/// The matches of two players by round and table, with the totals of the two, read one row at a time. A crash in it leaves what it could
+/// leave before.
+pub fn read_meetings<S: Alter>(
+    alloc: Global,
+    conn: &mut Connection<S>,
+) -> Result<Vec<MeetingRow>, Error>
+    ensures looks { OnlyLooks S.Store conn.old result conn.new }
+    ensures exact { FindsBy S.Store Represents
+        (λ e s read. IfOk read (λ rows. rows.items ≡ meeting_rows e)) conn.old result conn.new }
+    ensures refused { FindsBy S.Store Represents
+        (λ e s read. FailsToRead S.Store conn.old read conn.new) conn.old result conn.new }
+{
+    let mut meetings = Vec::new(alloc);
+    let mut rows = conn.query(READ_MEETINGS, &[])?;
+    while let Some(row) = rows.next()? {
+        push_row(&mut meetings, row)?;
+    }
+    Ok(meetings)
 }
 
 /// What a refusal of a read of this table means to a caller.

@@ -5,7 +5,7 @@ ghost use Rattle.sqlite.specs.declared.types.Value.TheVariants.{Text};
 ghost use Rattle.sqlite.specs.Order.{Row, column};
 ghost use Rattle.er_event.specs.declared.rows.pairing.PairingRow.{PairingRow};
 ghost use Rattle.er_event.specs.declared.rows.tally.TallyRow.{TallyRow};
-ghost use Rattle.er_store.specs.Rows.{named_columns, pairing_columns, tally_columns, text_or_null};
+ghost use Rattle.er_store.specs.Rows.{meeting_columns, named_columns, pairing_columns, tally_columns, text_or_null};
 ghost use Rattle.er_store.specs.Shape.{Form, event_form, player_form, pairing_form, bracket_form, tally_form};
 ghost use Rattle.er_store.specs.Reading.{first_columns, out_of_memory};
 
@@ -21,6 +21,16 @@ pub struct NamedPairing {
     /// None where no player has the number.
     pub lo_name: Option<Items<u8>>,
     pub hi_name: Option<Items<u8>>,
+}
+
+/// A stored match of two players, with the totals of each.
+#[derive(Drop)]
+pub struct MeetingRow {
+    pub round: i64,
+    pub tab: i64,
+    pub done: i64,
+    pub lo: TallyRow,
+    pub hi: TallyRow,
 }
 
 /// A text as its bytes, whatever they are: what a name may be is for the checks of rows.
@@ -112,12 +122,20 @@ impl FromRow for TallyRow {
     ghost form = { tally_form };
 
     fn from_row(row: &SqlRow) -> Result<TallyRow, Error> {
-        Ok(TallyRow {
-            no: row.get(0)?,
-            points: row.get(1)?,
-            rounds: row.get(2)?,
-            gamepoints: row.get(3)?,
-            games: row.get(4)?,
+        tally_at(row, 0)
+    }
+}
+
+impl FromRow for MeetingRow {
+    ghost form = { record { width = 13; columns = meeting_columns } };
+
+    fn from_row(row: &SqlRow) -> Result<MeetingRow, Error> {
+        Ok(MeetingRow {
+            round: row.get(0)?,
+            tab: row.get(1)?,
+            done: row.get(2)?,
+            lo: tally_at(row, 3)?,
+            hi: tally_at(row, 8)?,
         })
     }
 }
@@ -153,6 +171,23 @@ fn first_pairing(row: &SqlRow) -> Result<PairingRow, Error>
     })
 }
 
+/// The totals in five columns, of which this is the first.
+fn tally_at(row: &SqlRow, at: usize) -> Result<TallyRow, Error>
+    requires { at ≤ 8 }
+    ensures value { IfOk result (λ r. tally_columns r
+        ≡ map (column row.now) (range_with_len at 5)) }
+    ensures refused { IfErr result (λ e. e ≢ out_of_memory → at + 5 ≤ length row.now
+        → (r : TallyRow) → map (column row.now) (range_with_len at 5) ≢ tally_columns r) }
+{
+    Ok(TallyRow {
+        no: row.get(at)?,
+        points: row.get(at + 1)?,
+        rounds: row.get(at + 2)?,
+        gamepoints: row.get(at + 3)?,
+        games: row.get(at + 4)?,
+    })
+}
+
 /// The bytes of the text in this column, if there is one.
 fn text_or_null(row: &SqlRow, at: usize) -> Result<Option<Items<u8>>, Error>
     ensures value { IfOk result (λ bytes. column row.now at ≡ text_or_null bytes) }
@@ -174,6 +209,17 @@ fn bytes_of(row: &SqlRow, at: usize) -> Result<Items<u8>, Error>
 {
     let TextBytes { bytes } = row.get(at)?;
     Ok(bytes)
+}
+
+/// Appends the row as a typed row.
+pub fn push_row<T: FromRow>(typed: &mut Vec<T>, row: &SqlRow) -> Result<(), Error>
+    ensures value { OnOk result (map T.form.columns typed.new.items
+        ≡ map T.form.columns typed.old.items ++ first_columns T.form.width row.now ∷ []) }
+    ensures refused { IfErr result (λ e. e ≢ out_of_memory → (r : T)
+        → row.now ≢ T.form.columns r) }
+{
+    typed.push(T::from_row(row)?)?;
+    Ok(())
 }
 
 /// The rows as typed rows.

@@ -1,31 +1,34 @@
 -- Who met whom, as the tables show it.
-use Rattle.std.specs.Prelude.{ℕ, ℤ, pos, nat_abs, int_lt, ◌+◌, min, max, Bool, true, not, List, [], ◌∷◌, ◌++◌, map, filter, find, Option}
-use Rattle.std.specs.Prelude.{Some, None, option_map, is_some}
+use Rattle.std.specs.Prelude.{ℕ, ℤ, pos, ◌+◌, min, max, Bool, true, not, List, [], ◌∷◌, ◌++◌, map, filter, find, Option, Some, None}
+use Rattle.std.specs.Prelude.{option_map, is_some}
 use Rattle.std.specs.Ordering.{int_eq}
 use Rattle.er_event.specs.declared.matches.Match.{Match}
 use Rattle.er_event.specs.declared.rounds.Round.{Round}
-use Rattle.er_event.specs.declared.rows.pairing.PairingRow.{PairingRow}
 use Rattle.er_event.specs.declared.rows.tally.TallyRow.{TallyRow}
 use Rattle.er_event.specs.declared.tallies.Meeting.{Meeting}
 use Rattle.er_event.specs.declared.totals.Totals.{Totals}
 use Rattle.er_event.specs.Event.{EventValue}
-use Rattle.er_event.specs.Round.{is_bye}
+use Rattle.er_event.specs.Round.{is_bye, numbered_from}
 use Rattle.er_event.specs.Rows.{flag, tally_row}
 use Rattle.er_event.specs.Totals.{totals}
-use Rattle.er_store.specs.declared.tallies.MeetingRow.{MeetingRow}
+use Rattle.er_store.specs.declared.rows.MeetingRow.{MeetingRow}
 
 -- a match of two players, with what these totals give of the two, the lesser number first
-abbrev pub meeting_row : (ℕ → Totals) → ℕ → Match → MeetingRow
-meeting_row come_to round m = record {
-  round = pos round;
-  done = flag (is_some m.score);
-  lo = tally_row (min m.a m.b) (come_to (min m.a m.b));
-  hi = tally_row (max m.a m.b) (come_to (max m.a m.b));
-}
+abbrev pub meeting_row : (ℕ → Totals) → ℕ → ℕ × Match → MeetingRow
+meeting_row come_to round numbered =
+    let m = numbered.1 in
+    record {
+      round = pos round;
+      tab = pos numbered.0;
+      done = flag (is_some m.score);
+      lo = tally_row (min m.a m.b) (come_to (min m.a m.b));
+      hi = tally_row (max m.a m.b) (come_to (max m.a m.b));
+    }
 
 -- a bye is no meeting
 abbrev pub round_meetings : (ℕ → Totals) → ℕ → List Match → List MeetingRow
-round_meetings come_to round matches = map (meeting_row come_to round) (filter (λ (m : Match). not (is_bye m)) matches)
+round_meetings come_to round matches =
+    map (meeting_row come_to round) (filter (λ (n : ℕ × Match). not (is_bye n.1)) (numbered_from 1 matches))
 
 abbrev pub meetings_from : (ℕ → Totals) → ℕ → List Round → List MeetingRow
 meetings_from come_to round [] = []
@@ -34,29 +37,6 @@ meetings_from come_to round (r ∷ later) = round_meetings come_to round r.match
 -- one for each match of two players, by round and table, whether it has a score or not
 abbrev pub meeting_rows : EventValue → List MeetingRow
 meeting_rows e = meetings_from (totals e) 1 e.stored
-
--- the row of a match, with what these totals give of its two players
-abbrev pub joined_row : (ℕ → Totals) → PairingRow → MeetingRow
-joined_row come_to row = record {
-  round = row.round;
-  done = row.done;
-  lo = tally_row (nat_abs row.lo) (come_to (nat_abs row.lo));
-  hi = tally_row (nat_abs row.hi) (come_to (nat_abs row.hi));
-}
-
--- A match of two players: a bye has no player with the lesser number.
-abbrev pub has_both : PairingRow → Bool
-has_both row = int_lt (pos 0) row.lo
-
-abbrev pub joined_rows : (ℕ → Totals) → List PairingRow → List MeetingRow
-joined_rows come_to rows = map (joined_row come_to) (filter has_both rows)
-
--- a match but for what its players' matches come to: its round, whether it has a score, and the two by number
-abbrev pub columns_of_meeting : MeetingRow → ℤ × ℤ × ℤ × ℤ
-columns_of_meeting row = (row.round, row.done, row.lo.no, row.hi.no)
-
-abbrev pub columns_of_pairing : PairingRow → ℤ × ℤ × ℤ × ℤ
-columns_of_pairing row = (row.round, row.done, row.lo, row.hi)
 
 -- the round of the first match without a score, if there is one
 abbrev pub open_round : List MeetingRow → Option ℤ
