@@ -109,6 +109,7 @@ PARTS = {
     "crash": crash,
     "oom": oom,
     "corruption": corruption,
+    "beside": ("test_beside.py",),
     "package": package,
 }
 
