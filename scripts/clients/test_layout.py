@@ -395,7 +395,7 @@ def looks_in(browser, room, part, players, screen=(1920, 1080)):
 
 
 @pytest.mark.needs("the board on a screen", command=BROWSERS)
-@pytest.mark.parametrize("players", [37, 128])
+@pytest.mark.parametrize("players", [37, 100, 128])
 @pytest.mark.parametrize("part", HEADS)
 def test_each_column_has_its_headings(room, browser, part, players):
     """Above their cells, and none where a look has no column."""

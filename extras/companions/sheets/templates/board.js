@@ -97,10 +97,10 @@
     all = wide.matches ? parts.flatMap(looksOf) : [];
   };
 
-  // the last look of several may have fewer columns
-  const showHeads = shown => {
-    const heads = shown.part.querySelectorAll("thead > .heads"), begun = shown.at * heads.length;
-    heads.forEach((head, at) => (head.style.visibility = begun + at < columns.get(shown.part) ? "" : "hidden"));
+  // a single look may have fewer columns than there is room for; the last one of several shows the last columns, and so some again
+  const showHeads = part => {
+    const count = columns.get(part);
+    part.querySelectorAll("thead > .heads").forEach((head, at) => (head.style.visibility = at < count ? "" : "hidden"));
   };
 
   const showDots = (looks, shown) => {
@@ -115,7 +115,7 @@
     for (const part of parts) part.classList.toggle("now", part === shown.part);
     const scroller = scrollerOf(shown.part);
     if (scroller) scroller.scrollLeft = shown.at * step(scroller);
-    showHeads(shown);
+    showHeads(shown.part);
     showDots(looks, shown);
   };
 
