@@ -339,8 +339,8 @@ def test_pictures_are_drawn(room, browser):
     assert (head[1:4], struct.unpack(">II", head[16:24])) == (b"PNG", screen)
 
 
-# of each look the columns that are seen: the headings from the left to the right, those that don't stand above their cells, and of each row its letter and
-# what leads
+# of each look the columns that are seen: the headings from the left to the right, those that don't stand above their cells, and of each row its letter, what
+# leads, and whether it is marked
 COLUMNS = """
 <script>
 let at = 0;
@@ -360,7 +360,7 @@ const column = (head, rows) => {
   return {
     heads: cells.sort((one, other) => left(one) - left(other)).map(it => it.textContent),
     beside: cells.filter(it => under.length && Math.abs(edge(it) - edge(cellOf(under[0], it))) > 2).map(it => it.textContent),
-    rows: under.map(it => [it.querySelector(".letter")?.textContent, it.querySelector(".leads")?.textContent]),
+    rows: under.map(it => [it.querySelector(".letter")?.textContent, it.querySelector(".leads")?.textContent, getComputedStyle(it).backgroundColor !== "rgba(0, 0, 0, 0)"]),
   };
 };
 window.onload = () => {
@@ -404,6 +404,9 @@ def test_each_column_has_its_headings(room, browser, part, players):
         assert [it["beside"] for it in columns] == [[]] * len(columns), "above their cells"
         rows = [len(it["rows"]) for it in columns]
         assert (sum(rows), min(rows) > 0) == (count, True), "each row beneath headings, and each of them with rows"
+        stripes = [[is_marked for *_, is_marked in it["rows"]] for it in columns]
+        assert len({is_first for is_first, *_ in stripes}) == 1, "stripes go on from one column to the next"
+        assert stripes == [[(at % 2 > 0) != stripes[0][0] for at in range(it)] for it in rows], "every second row is marked"
 
 
 @pytest.mark.needs("the board on a screen", command=BROWSERS)
@@ -413,9 +416,9 @@ def test_a_column_that_goes_on_with_a_letter_begins_with_it(room, browser, playe
     for columns, _ in looks_in(browser, room, "names", players):
         before = ""
         for column in columns:
-            letters = [folded(leads)[:1].upper() for _, leads in column["rows"]]
+            letters = [folded(leads)[:1].upper() for _, leads, _ in column["rows"]]
             due = [letter if at == 0 or letter != letters[at - 1] else "" for at, letter in enumerate(letters)]
-            assert [letter for letter, _ in column["rows"]] == due
+            assert [letter for letter, *_ in column["rows"]] == due
             goes_on += letters[0] == before
             before = letters[-1]
     assert goes_on or players == 37, "some column goes on with a letter"

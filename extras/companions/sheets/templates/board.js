@@ -60,19 +60,20 @@
     if (isTooMuch()) set(at / STEP);
   };
 
-  // where a column begins, the letter stands again under which its names go on
+  // a column begins with the letter under which its names go on, and with a light row: so stripes go on from one column to the next
   const columns = new Map();
   const headColumns = part => {
-    let count = 0, left = NaN, letter = "";
-    for (const row of part.querySelectorAll(".looks > tr")) {
-      const at = Math.round(row.getBoundingClientRect().left), cell = row.querySelector(".letter");
-      const isHead = at !== left;
+    const rows = [...part.querySelectorAll(".looks > tr")], lefts = rows.map(row => Math.round(row.getBoundingClientRect().left));
+    let count = 0, place = 0, letter = "";
+    rows.forEach((row, at) => {
+      const isHead = lefts[at] !== lefts[at - 1], cell = row.querySelector(".letter");
       if (isHead) count++;
-      left = at;
-      if (!cell) continue;
+      place = isHead ? 0 : place + 1;
+      row.classList.toggle("marked", place % 2 === 1);
+      if (!cell) return;
       cell.textContent = isHead || cell.dataset.letter !== letter ? cell.dataset.letter : "";
       letter = cell.dataset.letter;
-    }
+    });
     columns.set(part, count);
   };
 
