@@ -17,10 +17,10 @@ WIDTH, HEIGHT = 96.0, 39.5
 # of the room for a name, what is counted on: letters are a little wider than estimated here and there
 FILLED = 0.95
 # in heights of a letter: between two columns, of a line, around a row
-GAP, LINE, AROUND = 2.2, 1.25, 0.35
-SIZES = (2.4, 2.2, 2.05, 1.9, 1.75, 1.6, 1.45, 1.3, 1.2, 1.1, 1.0, 0.9, 0.8)
-# of a list that takes several looks all the same, the largest one
-SIZE_OF_SEVERAL = 0.9
+GAP, LINE, AROUND = 2.2, 1.15, 0.22
+SIZES = (2.4, 2.2, 2.05, 1.9, 1.75, 1.6, 1.45, 1.3, 1.2, 1.1, 1.0, 0.9)
+# of a list for which these are too large, so that it takes several looks
+SIZE_OF_SEVERAL = SIZES[-1]
 MOST_COLUMNS = 6
 # of a row: the room that is not for names, and how many names stand side by side
 ROOMS = {

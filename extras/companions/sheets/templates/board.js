@@ -44,7 +44,7 @@
     const scroller = scrollerOf(part);
     return scroller.scrollHeight > scroller.clientHeight || ("whole" in part.dataset && countOf(scroller) > 1);
   };
-  const LINE = 1.25;
+  const LINE = 1.15;
   const linesOf = cell => Math.round(cell.clientHeight / LINE / parseFloat(getComputedStyle(cell).fontSize));
   const linesIn = part => [...part.querySelectorAll("td.name, td.opponent")].reduce((sum, cell) => sum + linesOf(cell), 0);
   const fit = part => {
@@ -52,12 +52,23 @@
     if (!size) return;
     let at = size;
     set(at);
+    part.style.removeProperty("--around");
     while (isCut(part) && at > LEAST * size) set((at /= STEP));
     if (at < size || !("whole" in part.dataset)) return;
     const lines = linesIn(part);
     const isTooMuch = () => isCut(part) || linesIn(part) > lines;
     while (at < MOST * size && !isTooMuch()) set((at *= STEP));
     if (isTooMuch()) set(at / STEP);
+    spread(part);
+  };
+
+  // where letters can't be larger, as names would take more lines, rows stand further apart: what is above and below each, in heights of a letter
+  const CLOSE = 0.11, LOOSE = 0.33, WIDER = 0.02;
+  const spread = part => {
+    const set = at => part.style.setProperty("--around", `${at}em`);
+    let at = CLOSE;
+    while (at < LOOSE && !isCut(part)) set((at += WIDER));
+    if (isCut(part)) set(at - WIDER);
   };
 
   // a column begins with the letter under which its names go on, and with a light row: so stripes go on from one column to the next
