@@ -19,11 +19,13 @@ from companions.sheets.page import Board, Foot, Playing, board_of, page_of, part
 from companions.sheets.parts import (
     DEFAULT_PARTS,
     ROOM_BESIDE_A_CODE,
+    Reach,
     SlipsFor,
     letters_of_slip,
     stacks_of,
 )
 from from_model import FromModel
+from markupsafe import Markup
 from scripts.clients.random_evenings import COMPLETE, ENDED, ENROLLING, OPEN, STARTED, evening
 from scripts.models.plain_event import Event as Played
 from scripts.models.plain_event import winner
@@ -196,11 +198,14 @@ def test_the_foot_of_a_board(dice):
     text = page_of(read, "Friday", 1, parts_of_board(read), board_of(read, 1, None, secret, ENGLISH))
     root = Page(text).root
     assert root.one("p", "playing") == "Tables finished: 1 of 4. Still playing: 1, 2, 4"
-    assert root.one("p", "address") == "Your table and your score on your phone: 192.168.1.10:8080"
     (bar,) = root.of("svg", "bar")
     assert [it.attributes["width"] for it in bar.of("rect")] == ["4", "1"]
     # nothing stands there without a round and without phones
     before = Event(FromModel(evening(dice, 8, ENROLLING, 3, 0)))
+    for square, how in ((Markup("<svg></svg>"), "scan, or at 192.168.1.10:8080"), ("", "192.168.1.10:8080")):
+        board = Board(foot=Foot(Reach(secret.shown_address, square)))
+        address = Page(page_of(read, "Friday", 1, (), board)).root.one("p", "address")
+        assert address == f"Your table and your score on your phone: {how}"
     assert Page(page_of(before, "Friday", 0, parts_of_board(before), Board(foot=Foot()))).root.of("footer") == []
 
 
@@ -244,7 +249,8 @@ def test_lists_by_name_say_where_phones_are_served(dice):
     read, secret = Event(FromModel(event)), Secret("http://192.168.1.10:8080", bytes(32))
     for kinds, is_said in ((("names",), True), (("seats",), True), (("tables",), False)):
         text = page_of(read, "Friday", 1, kinds, None, SlipsFor(None, secret))
-        assert ("on your phone:</span> 192.168.1.10:8080" in text) == is_said
+        how = "scan, or at 192.168.1.10:8080" if "<svg" in text else "192.168.1.10:8080"
+        assert (f"on your phone:</span> {how}" in text) == is_said
         assert "on your phone" not in page_of(read, "Friday", 1, kinds)
 
 
