@@ -95,6 +95,8 @@ def test_sheets_and_board_are_in_the_language_of_the_room(dice):
     root = Page(page_of(ended, "Freitag", 3, ("bracket", "final", "champion"), look=look)).root
     assert [it.text() for it in root.of("text", "stage")] == ["Viertelfinale", "Halbfinale", "Finale", "Sieger"]
     assert root.one("p", "how").startswith("gewann das Finale ")
+    board = page_of(ended, "Freitag", 3, ("champion",), Board(), look=look)
+    assert Page(board).root.one("p", "honour") == "Sieger"
 
 
 def test_the_look_of_an_event(dice):
