@@ -202,12 +202,12 @@ def test_the_foot_of_a_board(dice):
     assert root.one("p", "playing") == "Tables finished: 1 of 4. Still playing: 1, 2, 4"
     (bar,) = root.of("svg", "bar")
     assert [it.attributes["width"] for it in bar.of("rect")] == ["4", "1"]
-    # nothing stands there without a round and without phones
-    before = Event(FromModel(evening(dice, 8, ENROLLING, 3, 0)))
     for square, how in ((Markup("<svg></svg>"), "scan, or at 192.168.1.10:8080"), ("", "192.168.1.10:8080")):
         board = Board(foot=Foot(Reach(secret.shown_address, square)))
         address = Page(page_of(read, "Friday", 1, (), board)).root.one("p", "address")
         assert address == f"Your table and your score on your phone: {how}"
+    # nothing stands there without a round and without phones
+    before = Event(FromModel(evening(dice, 8, ENROLLING, 3, 0)))
     assert Page(page_of(before, "Friday", 0, parts_of_board(before), Board(foot=Foot()))).root.of("footer") == []
 
 
@@ -215,7 +215,7 @@ def test_a_board_says_beneath_its_parts_how_the_round_was_drawn(dice, tmp_path):
     """Once, and not above the names, where nobody looks for it. On paper it stands above each list."""
     event = evening(dice, 9, STARTED, 3, 0)
     event.pair(1, bytes(32))
-    chosen, read = "Key chosen by the scorekeeper", Event(FromModel(event), f"{tmp_path}/e.event")
+    chosen, read = "The scorekeeper could steer who meets whom: no public draw", Event(FromModel(event), f"{tmp_path}/e.event")
     text = page_of(read, "Friday", 1, ("names", "tables"), board_of(read, 1, None, None, ENGLISH))
     (foot,) = Page(text).root.of("footer")
     assert foot.one("p", "drawn") == chosen and text.count(chosen) == 1
