@@ -21,6 +21,9 @@ SPELT = str.maketrans({
 APOSTROPHES = "'`\u00b4\u2018\u2019\u201b\u2032\u02b9\u02bb\u02bc\u02bd\u02be\u02bf"
 MINUS, MIDDLE_DOT = "\u2212", "\u00b7"
 
+# of a syllable of Korean, which is taken apart, the consonant in the form in which it stands by itself
+CONSONANTS = {unicodedata.normalize("NFKD", chr(code)): chr(code) for code in range(0x3131, 0x314F)}
+
 # what tells two of one name apart, as (Owls), stands after the name
 TOLD_APART = re.compile(r"(.*\S)\s+(\([^()]*\))", re.S)
 WITH_COMMA = re.compile(r"([^,]*[^\s,]),\s+([^,]*[^\s,])", re.S)
@@ -120,7 +123,8 @@ class Listed:
     @property
     def letter(self) -> str:
         """Under which letter people look for it."""
-        return plain_name(self.leads)[:1].upper()
+        first = plain_name(self.leads)[:1].upper()
+        return CONSONANTS.get(first, first)
 
 
 def told_apart(name: str) -> tuple[str, str]:

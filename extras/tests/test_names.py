@@ -202,5 +202,7 @@ def test_last_names_stand_where_people_look_for_them():
     rows = name_rows([Player(at, name, False) for at, name in enumerate(reversed(names), 1)], False)
     assert [row.player.name for row in rows] == names
     assert [row.letter for row in rows] == ["A", "", "B", "", "D", "H", "L", "O", "", "S", "Z"]
+    # a Korean name, under its consonant as a letter of its own (U+3131, and not U+1100)
+    assert listed("\uae40\uc9c0\uc6b0").letter == "\u3131"
     by_first = name_rows([row.player for row in rows], True)
     assert [row.name.leads for row in by_first][:3] == ["Al Østergård", "Ana Åström", "Ana Zed"]
