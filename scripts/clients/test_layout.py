@@ -165,6 +165,23 @@ def test_a_list_by_name_on_one_page(sheets, program, room, dice, browser, player
             assert "Modern, Owls Game Shop" in sheet, size
 
 
+@pytest.mark.needs("sheets on paper", command=BROWSERS)
+@pytest.mark.needs("sheets on paper", command="pdftotext")
+@pytest.mark.parametrize("players", [8, 37])
+@pytest.mark.parametrize("part", ["tables", "standings"])
+def test_a_row_stands_on_one_line(room, browser, part, players):
+    """Its number, table, record and percentages, in letters of several sizes, stand on the line of the name."""
+    played = pictures.evening(players)
+    played.names[:] = [f"Bo{number}" for number in range(1, players + 1)]
+    text = pictures.Room(browser, room, room).page(played, [part], is_board=False)
+    words = re.findall(r'<word xMin="[-\d.]+" yMin="([-\d.]+)" xMax="[-\d.]+" yMax="([-\d.]+)">(.*?)</word>', Paper(browser, room, text, "A4").boxes)
+    # where letters stand, in most typefaces: of the box of a word a fifth lies below
+    lines = [(float(top) + 0.79 * (float(bottom) - float(top)), word) for top, bottom, word in words]
+    names = [line for line, word in lines if word.startswith("Bo")]
+    apart = {word: min(abs(line - it) for it in names) for line, word in lines if names[0] - 4 < line < names[-1] + 4}
+    assert len(names) == players and {word: points for word, points in apart.items() if points > 1.2} == {}
+
+
 # ---- the screen
 
 # what a browser says of the layout of a board, with each part in its turn: of each name the lines that it takes, how far down and across it goes, how small
