@@ -153,7 +153,8 @@ def test_a_refusal_is_the_prompt_s_to_explain(tmp_path, dice):
 
 def test_without_jinja_it_says_what_to_install(tmp_path, dice, monkeypatch):
     session = Session(tmp_path, evening(dice, 9, OPEN, 3, 4))
-    monkeypatch.delitem(sys.modules, "companions.sheets.page", raising=False)
+    for module in ("companions.sheets.page", "companions.templates"):
+        monkeypatch.delitem(sys.modules, module, raising=False)
     monkeypatch.setitem(sys.modules, "jinja2", None)
     with pytest.raises(Declined, match="\nsudo apt-get install python3-jinja2$"):
         Printing(session).print("slips")

@@ -7,12 +7,12 @@ from dataclasses import dataclass, field
 from functools import lru_cache, partial
 from typing import Any, Callable
 
-from jinja2 import Environment, FileSystemLoader, StrictUndefined
-
 from companions.languages import plain_in
-from companions.languages.marked import named, text_in
+from companions.languages.marked import text_in
+from companions.templates import templates_in
 
 FOLDER = os.path.join(os.path.dirname(os.path.abspath(__file__)), "templates")
+TEMPLATES = templates_in(FOLDER)
 POLICY = "default-src 'none'; style-src 'self'; form-action 'self'; frame-ancestors 'none'; base-uri 'none'"
 SAFE_HEADERS = [
     ("X-Frame-Options", "DENY"),
@@ -74,19 +74,6 @@ def tag_of(body: bytes) -> str:
 
 
 @lru_cache(maxsize=None)
-def templates() -> Environment:
-    environment = Environment(
-        loader=FileSystemLoader(FOLDER),
-        autoescape=True,
-        undefined=StrictUndefined,
-        trim_blocks=True,
-        lstrip_blocks=True,
-    )
-    environment.globals["named"] = named
-    return environment
-
-
-@lru_cache(maxsize=None)
 def style() -> bytes:
     with open(os.path.join(FOLDER, "style.css"), "rb") as text:
         return text.read()
@@ -102,4 +89,4 @@ def rendered(name: str, language: str, **words: Any) -> bytes:
         "t": partial(text_in, language),
         "plain": partial(plain_in, language),
     }
-    return templates().get_template(name).render(language=language, **texts, **words).encode("utf-8")
+    return TEMPLATES.get_template(name).render(language=language, **texts, **words).encode("utf-8")

@@ -9,7 +9,6 @@ from dataclasses import dataclass, replace
 from functools import lru_cache, partial
 from typing import Iterable, Optional
 
-from jinja2 import Environment, FileSystemLoader, StrictUndefined
 from markupsafe import Markup
 
 from companions.clock import Clock
@@ -17,7 +16,7 @@ from companions.codes import Secret
 from companions.drawn import shut_now
 from companions.event import Event
 from companions.languages import DEFAULT, Say, say_in
-from companions.languages.marked import named, text_in
+from companions.languages.marked import text_in
 from companions.look import Look
 from companions.notes import Note, Notes
 from companions.sheets.board import in_columns, layout_of
@@ -33,9 +32,14 @@ from companions.sheets.parts import (
     part_of,
     reach_of,
 )
+from companions.templates import templates_in
 from companions.wording import ranges
 
 FOLDER = os.path.join(os.path.dirname(os.path.abspath(__file__)), "templates")
+TEMPLATES = templates_in(FOLDER)
+TEMPLATES.globals.update(
+    letters_of_slip=letters_of_slip, layout_of=layout_of, in_columns=in_columns, is_close=is_close
+)
 # so many tables that still play are named beneath a board
 MOST_STILL = 30
 # a board loads itself again so often
@@ -59,24 +63,6 @@ def policy() -> str:
         f"default-src 'none'; style-src 'unsafe-inline'; script-src 'sha256-{digest}'; img-src data:; "
         "form-action 'none'; base-uri 'none'"
     )
-
-
-@lru_cache(maxsize=None)
-def templates() -> Environment:
-    environment = Environment(
-        loader=FileSystemLoader(FOLDER),
-        autoescape=True,
-        undefined=StrictUndefined,
-        trim_blocks=True,
-        lstrip_blocks=True,
-        keep_trailing_newline=True,
-    )
-    environment.globals["named"] = named
-    environment.globals["letters_of_slip"] = letters_of_slip
-    environment.globals["layout_of"] = layout_of
-    environment.globals["in_columns"] = in_columns
-    environment.globals["is_close"] = is_close
-    return environment
 
 
 def parts_of_board(event: Event) -> tuple[str, ...]:
@@ -233,7 +219,7 @@ def colours_of(look: Look, is_board: bool) -> dict[str, str]:
 def rendered(
     parts: list[Part], title: str, number: int, board: Optional[Board] = None, look: Look = Look()
 ) -> str:
-    template = templates().get_template("page.html")
+    template = TEMPLATES.get_template("page.html")
     parts = list(map(for_board, parts)) if board else parts
     now = time.time()
     text: str = template.render(
