@@ -1,13 +1,16 @@
-"""Words of the command lines of several companions."""
+"""Words of the command lines of several companions, and what they end with."""
 from __future__ import annotations
 
 import argparse
+import os
 import re
 import subprocess
-from typing import Any
+import sys
+from typing import Any, Callable
 
 from companions.clock import MOST_MINUTES
-from companions.program import program_beside
+from companions.program import Declined, program_beside
+from companions.reading import Unread
 
 
 def port_word(text: str) -> int:
@@ -43,6 +46,27 @@ def add_program(parser: argparse.ArgumentParser) -> None:
     parser.add_argument(
         "--version", action=Version, nargs=0, help="print the version of the event_reporter that is called"
     )
+
+
+def status_of(command: str, run: Callable[[], int], when_interrupted: int = 0) -> int:
+    """Of a command line. What was declined, and what the system refused, is said in a line."""
+    try:
+        return run()
+    except Declined as fault:
+        print(f"{command}: {fault}", file=sys.stderr)
+        return 3
+    except Unread as fault:
+        print(f"{command}: {fault}", file=sys.stderr)
+        return fault.status
+    except KeyboardInterrupt:
+        return when_interrupted
+    except BrokenPipeError:
+        # nobody reads on, and what is left would be written at the end
+        os.dup2(os.open(os.devnull, os.O_WRONLY), 1)
+        return 3
+    except OSError as fault:
+        print(f"{command}: {f'{fault.filename}: ' if fault.filename else ''}{fault.strerror}", file=sys.stderr)
+        return 3
 
 
 def count_word(text: str) -> int:

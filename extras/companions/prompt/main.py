@@ -3,12 +3,11 @@ from __future__ import annotations
 
 import argparse
 import io
-import os
 import sys
 from typing import NoReturn, Optional
 
-from companions.arguments import add_program
-from companions.program import Declined, Source, ready
+from companions.arguments import add_program, status_of
+from companions.program import Source, ready
 from companions.prompt.desk import Desk
 from companions.prompt.texts import ALL_COMMANDS
 from companions.turn import Turn
@@ -63,17 +62,12 @@ def prepare_streams() -> None:
             stream.reconfigure(line_buffering=True)
 
 
+def run(words: argparse.Namespace) -> int:
+    source = Source(ready(words.program), words.file, Turn(words.file, makes_file=True))
+    return Desk(source, words.file).go()
+
+
 def main(arguments: Optional[list[str]] = None) -> int:
     words = parser().parse_args(arguments)
     prepare_streams()
-    try:
-        source = Source(ready(words.program), words.file, Turn(words.file, makes_file=True))
-        return Desk(source, words.file).go()
-    except Declined as fault:
-        print(f"{COMMAND}: {fault}", file=sys.stderr)
-        return 3
-    except KeyboardInterrupt:
-        return 130
-    except BrokenPipeError:
-        os.dup2(os.open(os.devnull, os.O_WRONLY), 1)
-        return 3
+    return status_of(COMMAND, lambda: run(words), when_interrupted=130)

@@ -7,7 +7,7 @@ import sys
 import time
 from typing import Callable, Optional
 
-from companions.arguments import add_program, tables_word
+from companions.arguments import add_program, status_of, tables_word
 from companions.event import Event
 from companions.look import look_of
 from companions.names import visible
@@ -19,7 +19,6 @@ from companions.sheets.files import (
     must_be_for_pages,
     must_write,
     page_beside,
-    write_page,
 )
 from companions.sheets.making import PACKAGE, Wanted, page_maker
 from companions.sheets.parts import PARTS
@@ -97,12 +96,12 @@ class Watch:
             return
         try:
             if text != self.written:
-                write_page(self.page, text)
-        except OSError as fault:
+                must_write(self.page, text)
+        except Declined as fault:
             if self.written is None:
                 raise
             # as where the disk is full for a moment
-            self.say_once(f"{self.page} was not written: {fault.strerror}.")
+            self.say_once(str(fault))
             return
         self.stamp, self.written, self.said = stamp, text, ""
 
@@ -158,8 +157,13 @@ def parser() -> argparse.ArgumentParser:
 
 
 def write_out(text: str) -> None:
-    sys.stdout.buffer.write(text.encode("utf-8"))
-    sys.stdout.buffer.flush()
+    try:
+        sys.stdout.buffer.write(text.encode("utf-8"))
+        sys.stdout.buffer.flush()
+    except BrokenPipeError:
+        raise
+    except OSError as fault:
+        raise Declined(f"the page was not written: {fault.strerror}") from None
 
 
 def source_for(words: argparse.Namespace) -> Source:
@@ -204,19 +208,4 @@ def run(words: argparse.Namespace) -> int:
 
 def main(arguments: Optional[list[str]] = None) -> int:
     words = parser().parse_args(arguments)
-    try:
-        return run(words)
-    except Unread as fault:
-        print(f"{COMMAND}: {fault}", file=sys.stderr)
-        return fault.status
-    except Declined as fault:
-        print(f"{COMMAND}: {fault}", file=sys.stderr)
-        return 3
-    except KeyboardInterrupt:
-        return 0
-    except BrokenPipeError:
-        os.dup2(os.open(os.devnull, os.O_WRONLY), 1)
-        return 3
-    except OSError as fault:
-        print(f"{COMMAND}: the page was not written: {fault.strerror}", file=sys.stderr)
-        return 3
+    return status_of(COMMAND, lambda: run(words))
