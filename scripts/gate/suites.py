@@ -1,5 +1,5 @@
-"""Runs parts of the test command: suites of pytest, and scripts that are no suites. A word with a `/` in it is a file, a folder or one case of pytest's, and
-what pytest takes besides goes on to it: `scripts/test csv -k UTF`.
+"""Runs parts of the test command: suites of pytest, and scripts that are no suites. A word with a `/` in it is a file, a folder or one case of pytest's, or
+a script that is no suite. What pytest takes besides goes on to it: `scripts/test csv -k UTF`.
 """
 import argparse
 import concurrent.futures
@@ -36,9 +36,9 @@ def types_of_companions(_given, _rest):
         return passes(["mypy", "--config-file", "extras/mypy.ini", "--cache-dir", room, "extras/companions"])
 
 
-def tests_of_companions(_given, rest):
+def tests_of_companions(_given, rest, names=("extras/tests",)):
     """They need no program, and are counted by pytest."""
-    return passes([python(), "-B", "-m", "pytest", "-q", "-p", "no:cacheprovider", "extras/tests", *rest])
+    return passes([python(), "-B", "-m", "pytest", "-q", "-p", "no:cacheprovider", *names, *rest])
 
 
 def crash(is_long):
@@ -163,20 +163,59 @@ def library(name, room):
     return path
 
 
+def steps_of(part, is_long):
+    return [*(PARTS[part](is_long) if callable(PARTS[part]) else PARTS[part])]
+
+
+def lines_of(step):
+    """Those that go side by side."""
+    return step if isinstance(step[0], list) else [step]
+
+
+def module_of(line):
+    return line[line.index("-m") + 1]
+
+
+def lines_running(path, is_long):
+    """The lines by which parts run a script that is no suite."""
+    steps = [step for part in PARTS for step in steps_of(part, is_long) if isinstance(step, list)]
+    return [line for step in steps for line in lines_of(step) if path == f"{module_of(line).replace('.', '/')}.py"]
+
+
 def step_passes(step, given, rest, room):
     if callable(step):
         return step(given, rest)
-    # words for pytest choose among its cases
     if rest:
+        for line in lines_of(step):
+            print(f"left out: {module_of(line)}, as {' '.join(rest)} chooses among cases of pytest", flush=True)
         return True
-    lines = [filled(line, given, room) for line in (step if isinstance(step[0], list) else [step])]
+    lines = [filled(line, given, room) for line in lines_of(step)]
     with concurrent.futures.ThreadPoolExecutor(len(lines)) as pool:
         return all([*pool.map(passes, lines)])
 
 
+def script_passes(path, given):
+    """Runs a script that is no suite as its part does."""
+    with tempfile.TemporaryDirectory() as room:
+        return all([step_passes(line, given, [], room) for line in lines_running(path, given.long)])
+
+
+def path_of(word):
+    """Pytest lists cases from the folder of the scripts on."""
+    return word if os.path.exists(f"{TOP}/{word.partition('::')[0]}") else f"scripts/{word}"
+
+
+def cases_pass(cases, given, rest):
+    """Cases, files and folders of pytest, each with what its folder shares."""
+    own = [it for it in cases if it.startswith("extras/")]
+    others = [it for it in cases if it not in own]
+    passed = [tests_of_companions(given, rest, own)] if own else []
+    return all(passed + ([suites_pass(others, given, rest)] if others else []))
+
+
 def run(part, given, rest):
     """Whether all of a part has passed. What comes after a failure is run all the same."""
-    steps = [*(PARTS[part](given.long) if callable(PARTS[part]) else PARTS[part])]
+    steps = steps_of(part, given.long)
     names = [f"scripts/{step if '/' in step else f'clients/{step}'}" for step in steps if isinstance(step, str)]
     passed = [suites_pass(names, given, rest)] if names else []
     with tempfile.TemporaryDirectory() as room:
@@ -186,7 +225,7 @@ def run(part, given, rest):
 
 def main():
     words = argparse.ArgumentParser(prog="scripts/test", description="Without words, passes the tests, the gate among them. With a PART, runs that.", epilog=__doc__)
-    words.add_argument("parts", nargs="+", metavar="PART", help=f"{', '.join(PARTS)}; or a file or a case of a suite")
+    words.add_argument("parts", nargs="+", metavar="PART", help=f"{', '.join(PARTS)}; or a script, or a case of a suite")
     words.add_argument("--long", action="store_true", help="try much more, outside the test command")
     words.add_argument("--seed", type=int, default=commit_time(), metavar="N", help="play the random ones of this number again; without it, the time of the commit")
     words.add_argument("--program", default=BUILT, metavar="FILE", help="the program; without it, the one that is built here")
@@ -195,11 +234,14 @@ def main():
     unknown = [it for it in given.parts if "/" not in it and it not in PARTS]
     if unknown:
         words.error(f"{unknown[0]} is no part: {', '.join(PARTS)}")
-    cases = [it for it in given.parts if "/" in it]
+    paths = [path_of(it) for it in given.parts if "/" in it]
+    scripts = [it for it in paths if lines_running(it, given.long)]
+    cases = [it for it in paths if it not in scripts]
     with compiled():
         passed = [run(it, given, rest) for it in given.parts if it in PARTS]
+        passed += [script_passes(it, given) for it in scripts]
         if cases:
-            passed.append(suites_pass(cases, given, rest))
+            passed.append(cases_pass(cases, given, rest))
     return 0 if all(passed) else 1
 
 
