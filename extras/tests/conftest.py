@@ -3,6 +3,7 @@ plain readings in `scripts/models`, or from the documents.
 """
 import os
 import random
+import re
 import sys
 import time
 
@@ -10,6 +11,21 @@ import pytest
 
 EXTRAS = os.path.dirname(os.path.dirname(os.path.abspath(__file__)))
 sys.path[:0] = [EXTRAS, os.path.dirname(EXTRAS)]
+
+
+def left_out(skipped):
+    """A line for each file and reason, as the test command gathers them."""
+    found = set()
+    for path, _, reason in skipped:
+        module = re.search("could not import '([^']+)'", reason)
+        why = f"{module[1]} is not installed" if module else reason.partition("Skipped: ")[2]
+        found.add(f"left out: tests of {os.path.basename(path)}, as {why}")
+    return sorted(found)
+
+
+def pytest_terminal_summary(terminalreporter):
+    for line in left_out(report.longrepr for report in terminalreporter.stats.get("skipped", ())):
+        terminalreporter.line(line)
 
 
 @pytest.fixture
