@@ -12,6 +12,16 @@ from scripts.models.schema import TABLES
 STATUSES = {24: 4, 25: 3, 26: 3}
 
 
+def bytes_of(path):
+    with open(path, "rb") as file:
+        return file.read()
+
+
+def bytes_in(room):
+    """Of each file of a folder."""
+    return {name: bytes_of(f"{room}/{name}") for name in os.listdir(room)}
+
+
 def words_of(line, file):
     """The words of a command line: those of a line of a script, with FILE behind the first."""
     name, *rest = line.split("\t")

@@ -16,7 +16,7 @@ import tempfile
 import pytest
 
 from scripts import TOP
-from scripts.clients.event_files import as_nobody, by_sqlite, copied, due, event_of_four, make_four, make_old, rows_alone, rows_of
+from scripts.clients.event_files import as_nobody, by_sqlite, bytes_in, bytes_of, copied, due, event_of_four, make_four, make_old, rows_alone, rows_of
 from scripts.clients.serving import Serving, hear_interrupts, served
 from scripts.clients.program import laid
 from scripts.clients.transcripts import parts_of
@@ -70,16 +70,8 @@ def made(program, file):
     return program.played(file, [("enrol", "Ana"), ("enrol", "Bo")])
 
 
-def bytes_of(file):
-    return open(file, "rb").read()
-
-
 def log_of(file):
     return f"{file}-wal"
-
-
-def bytes_in(room):
-    return {name: bytes_of(f"{room}/{name}") for name in os.listdir(room)}
 
 
 def test_paths(program, room):

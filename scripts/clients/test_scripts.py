@@ -15,6 +15,7 @@ import pytest
 
 from scripts import TOP, version
 from scripts.clients import subcommands
+from scripts.clients.event_files import bytes_of
 from scripts.clients.transcripts import parts_of
 from scripts.clients.waiting import PATIENCE
 from scripts.models.chacha20 import words_of
@@ -32,11 +33,6 @@ TRANSCRIPTS = [
 def test_transcript(program, lines):
     answers = "".join(f"{text}\n" for _, answer in lines for text in answer).encode()
     assert program.fed(b"".join(line for line, _ in lines)) == (0, answers, b"")
-
-
-def bytes_of(path):
-    with open(path, "rb") as file:
-        return file.read()
 
 
 @pytest.mark.parametrize("path", sorted(glob.glob(f"{TOP}/examples/*.answers")), ids=os.path.basename)

@@ -18,7 +18,7 @@ import subprocess
 import sys
 import tempfile
 
-from scripts.clients.event_files import copied, due, make_old, rows_alone, rows_of, rows_of_copy, words_of
+from scripts.clients.event_files import bytes_in, copied, due, make_old, rows_alone, rows_of, rows_of_copy, words_of
 from scripts.clients.program import Program
 from scripts.clients.tally import check, dice_of, end
 from scripts.faults import damaged_bytes
@@ -156,10 +156,6 @@ def read_by_sqlite(file, takes=copied):
             return REFUSALS[29]
         except sqlite3.Error:
             return ()
-
-
-def bytes_in(room):
-    return {name: open(f"{room}/{name}", "rb").read() for name in os.listdir(room)}
 
 
 def change_of_log(before, after):

@@ -14,10 +14,9 @@ import subprocess
 import sys
 import tempfile
 
-from scripts.clients.event_files import copied, due, make_old
+from scripts.clients.event_files import bytes_in, copied, due, make_old
 from scripts.clients.program import Program
 from scripts.clients.tally import check, end, left_out
-from scripts.faults.damage import bytes_in
 from scripts.models import plain_file
 from scripts.models.plain_event import Event
 
