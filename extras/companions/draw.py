@@ -34,7 +34,9 @@ HEAD = re.compile(
     rf"instead (-|{NUMBER}(?:; {NUMBER})*)\n"
     r"key ([0-9a-f]{64})\n".encode()
 )
-RULE = re.compile(r"(each|once) ([1-9][0-9]?)d([1-9][0-9]{0,5})|each papers|off")
+# what stands before the rule once the draw was ended
+ENDED = "off after "
+RULE = re.compile(rf"off|(?:{ENDED})?(?:(each|once) ([1-9][0-9]?)d([1-9][0-9]{{0,5}})|each papers)")
 
 
 class NoNumber(ValueError):
@@ -70,7 +72,9 @@ def shown_digits(sum_of_text: str) -> str:
 
 @dataclass(frozen=True)
 class Rule:
-    """How a round gets its number, as FILE.draws/rule has it: each 4d20, once 4d20, each papers, off."""
+    """How a round gets its number, as FILE.draws/rule has it: each 4d20, once 4d20, each papers; or that the draw
+    was ended, and by which rule rounds were drawn until then: off after each 4d20.
+    """
 
     text: str
     # how many values there are at least, and how great one may be
@@ -79,11 +83,16 @@ class Rule:
 
     @property
     def is_off(self) -> bool:
-        return self.text == "off"
+        return self.text.startswith("off")
 
     @property
     def is_once(self) -> bool:
-        return self.text.startswith("once")
+        """Whether the number of round 1 is that of each round, also of those drawn before the draw was ended."""
+        return self.text.replace(ENDED, "").startswith("once")
+
+    @property
+    def ended(self) -> Rule:
+        return self if self.is_off else Rule(f"{ENDED}{self.text}")
 
     @property
     def is_papers(self) -> bool:
@@ -118,8 +127,8 @@ def rule_of(text: str) -> Optional[Rule]:
     found = RULE.fullmatch(text)
     if not found:
         return None
-    if text == "off":
-        return Rule(text)
+    if text.startswith("off"):
+        return Rule(text) if text == "off" or rule_of(text[len(ENDED) :]) else None
     # two write at least, four digits each
     least, most = (int(found[2]), int(found[3])) if found[1] else (2, 9999)
     return Rule(text, least, most) if 2 <= least <= MOST_VALUES and most >= 2 else None

@@ -142,7 +142,11 @@ def test_rules():
     assert rule.example == "pair 17 3 8 11"
     assert rule_of("each papers").fault_of("815 4711") == "" != rule_of("each papers").fault_of("4711")
     assert rule_of("once 8d6").is_once and not rule.is_once and rule_of("off").is_off
+    ended = rule_of("once 4d20").ended
+    assert (ended.text, ended.is_off, ended.is_once) == ("off after once 4d20", True, True)
+    assert rule_of(ended.text) == ended == ended.ended and not rule.ended.is_once
     wrong = "", "4d20", "each 1d20", "each 21d20", "each 4d1", "each 04d20", "once papers", "each 4d20 "
+    wrong += "off after off", "off after each 1d20", "off each 4d20"
     assert [rule_of(it) for it in wrong] == [None] * len(wrong)
     examples = [rule_of(it).example for it in ("each 8d6", "each 20d4", "each papers")]
     for text, example in zip(("each 8d6", "each 20d4", "each papers"), examples):

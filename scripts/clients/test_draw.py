@@ -227,6 +227,10 @@ def test_a_mistyped_number_is_shown_for_ever(prompt, begin):
     assert [lines_of(text_of(file, 1, 2))[it] for it in ("number", "instead", "key")] == ["3 8 12 17", "3 8 11 17", key_of(1, "3 8 12 17")]
     prompt.said(file, "number 1 1 1 1 1", "y", "back 1", "y", "pair")
     assert lines_of(text_of(file, 1, 3))["instead"] == "3 8 11 17; 3 8 12 17"
+    # the first one was right after all
+    prompt.said(file, "number 1 17 3 8 11", "y", "back 1", "y", "pair")
+    assert [lines_of(text_of(file, 1, 4))[it] for it in ("number", "instead")] == [NUMBER, "3 8 12 17; 1 1 1 1"]
+    assert event_check.main([file]) == 0
 
 
 def test_a_key_that_the_scorekeeper_chooses_is_told_for_ever(prompt, begin):
@@ -275,6 +279,20 @@ def test_the_rule_is_made_before_the_start(prompt, room):
     said = prompt.said(file, "draw off", "y", "draw on", "pair")
     check_said("ended", unfilled(said), "It can't be put on again.", "made before the start", "Round 1: KEY CHOSEN BY THE SCOREKEEPER")
     assert lines_of(text_of(file, 1))["number"] == "-"
+
+
+@pytest.mark.parametrize("rule", ["draw on", "draw on once 4d20"])
+def test_what_was_drawn_stays_right_once_the_draw_is_ended(prompt, begin, rule, capsys):
+    """Rounds that follow say that their key was chosen, and in place of which number if they had one."""
+    file = begin(FOUR, rule=rule)
+    prompt.said(file, "pair", "pair 17 3 8 11", *scored(2), "pair", "pair 17 3 8 11", *scored(2), "draw off", "y", "pair")
+    check_said("again", prompt.said(file, "draw off", "draw"), "The draw was ended before", f"The rule of the evening: off after {rule.replace('draw on', '').strip() or 'each 4d20'}")
+    heads = [lines_of(text_of(file, number)) for number in (1, 2, 3)]
+    assert [head["number"] for head in heads] == [NUMBER, NUMBER, "-"]
+    assert heads[2]["instead"] == (NUMBER if "once" in rule else "-")
+    status, said = event_check.main([file]), capsys.readouterr().out
+    assert (status, "WRONG" in said) == (0, False), said
+    check_said("it is told", said, "KEY CHOSEN BY THE SCOREKEEPER: no number was drawn")
 
 
 def test_help_of_a_round_names_the_draw_while_it_is_on(prompt, begin, room):

@@ -55,6 +55,8 @@ class DrawnEvening:
         active = [it for it in event.numbers() if it not in event.dropped]
         if len(active) > 4 and self.maybe(0.3):
             self.type(f"drop {self.dice.choice(active)}", "y")
+        if event.stored and self.maybe(0.04):
+            self.type("draw off", "y")
         if event.stored and len(event.stored) < self.rounds and self.maybe(0.3):
             self.type(f"enrol Late {len(event.names) + 1}")
         if event.stored and self.maybe(0.3):

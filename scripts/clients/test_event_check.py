@@ -285,7 +285,15 @@ def test_an_event_with_what_lies_beside_it(program, checked, room, evening):
     assert (status, "WRONG" in said) == (0, False), said
     assert "round 3 in the event\n  right: it has the tables of round 3, drawing 1" in said
     assert checked(room)[0] == checked(folder)[0] == 0, "by its folder, and by FILE.draws alone"
+    # the draw was ended after these rounds
+    with open(f"{folder}/rule", "w") as it:
+        it.write("off after each 4d20\n")
+    assert checked(file)[0] == 0
     # a number that was not kept, an evening of another rule, a text that is gone
+    for rule in ("off after each 5d10", "off after once 4d20"):
+        with open(f"{folder}/rule", "w") as it:
+            it.write(f"{rule}\n")
+        assert checked(file)[0] == 1, rule
     with open(f"{folder}/rule", "w") as it:
         it.write("each 5d10\n")
     assert "WRONG: the number 1 8 11 17 is none by the rule of the evening, each 5d10" in checked(file)[1]

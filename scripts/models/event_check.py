@@ -54,7 +54,9 @@ exit status:
 DATABASE = b"SQLite format 3\0"
 SHUT = re.compile(r"round-([1-9][0-9]?)-([1-9][0-9]{0,3})\.shut")
 KEPT = re.compile(r"round ([1-9][0-9]?) ([0-9]+(?: [0-9]+)*)(?: by [0-9 ]+)?")
-RULE = re.compile(r"(?:each|once) [1-9][0-9]?d[1-9][0-9]{0,5}|each papers|off")
+# once the draw was ended, by which rule rounds were drawn until then; earlier files have `off` alone
+ENDED = "off after "
+RULE = re.compile(rf"(?:{ENDED})?(?:(?:each|once) [1-9][0-9]?d[1-9][0-9]{{0,5}}|each papers)|off")
 CHOSEN = "KEY CHOSEN BY THE SCOREKEEPER: it has no text"
 
 
@@ -137,11 +139,12 @@ def draws_in(folder):
 
 def read_kept(text, numbers, rule):
     """What the folder says of a text besides: the number that was kept, and the rule of the evening."""
-    kept = numbers.get(1 if rule.startswith("once") else text.round, [])
+    made_by = rule.replace(ENDED, "", 1)
+    kept = numbers.get(1 if made_by.startswith("once") else text.round, [])
     if text.is_drawn and text.number not in kept:
         yield WRONG, f"the number {text.number} was not kept before the key was made"
-    if text.is_drawn and RULE.fullmatch(rule) and rule != "off" and not plain_draw.is_by_rule(rule, text.number):
-        yield WRONG, f"the number {text.number} is none by the rule of the evening, {rule}"
+    if text.is_drawn and RULE.fullmatch(rule) and rule != "off" and not plain_draw.is_by_rule(made_by, text.number):
+        yield WRONG, f"the number {text.number} is none by the rule of the evening, {made_by}"
     passed_over = [it for it in kept[: kept.index(text.number)] if it not in text.mistyped] if text.number in kept else []
     if passed_over:
         yield WRONG, f"an earlier number of the round is not told: {'; '.join(passed_over)}"

@@ -134,8 +134,11 @@ class Drawing:
 
     def put_off(self) -> None:
         session = self.session
-        if not self.draws.rule:
+        rule = self.draws.rule
+        if not rule:
             raise Declined(NO_DRAW)
+        if rule.is_off:
+            raise Declined("The draw was ended before, and each round since says so.")
         if session.event.phase is Phase.ENROLLING:
             self.draws.forget_rule()
             session.say("Nothing is drawn.")
@@ -143,7 +146,7 @@ class Drawing:
         question = "From now on each round says: key chosen by the scorekeeper. It can't be put on again."
         if not session.lines.says_yes(f"{question} End the draw?"):
             raise Declined("Rounds are drawn as before.")
-        self.draws.keep_rule(Rule("off"))
+        self.draws.keep_rule(rule.ended)
 
     def show(self) -> None:
         session, rule = self.session, self.draws.rule
@@ -355,7 +358,8 @@ class Drawing:
         by_number = [at for at, it in enumerate(kept) if key_of(number, it.number) == key]
         used = kept[by_number[-1]] if by_number else Kept(NONE)
         others = kept[: by_number[-1]] if by_number else kept
-        instead = "; ".join(it.number for it in others) or NONE
+        # one that was typed again counts again
+        instead = "; ".join(it.number for it in others if it.number != used.number) or NONE
         tables, after = tables_of(results, number), self.draws.last_sum()
         return DrawText(number, drawing, after, used.number, used.by, instead, key, lists, tables)
 
