@@ -96,6 +96,14 @@ def address_word(text: str) -> str:
     return found[1]
 
 
+def place_word(text: str) -> str:
+    """Where to listen: a host, and a port if there is one. An address of IPv6 has it only after its brackets."""
+    port = re.search(r"(?:^[^:]*|\]):([0-9]+)$", text)
+    if port:
+        port_word(port[1])
+    return text
+
+
 def tables_word(text: str) -> frozenset[int]:
     if not re.fullmatch("[0-9]{1,3}(,[0-9]{1,3})*", text):
         raise argparse.ArgumentTypeError(f"{text!r} are no tables, as 4 or 4,17")

@@ -6,6 +6,7 @@ import pytest
 
 pytest.importorskip("waitress")
 
+from companions.arguments import place_word
 from companions.codes import Secret
 from companions.phones import addresses, serving
 from companions.phones.door import NO_LIMIT, AnotherMachines, door_at
@@ -54,6 +55,13 @@ def test_an_address_of_this_machine_alone(at, is_alone):
 )
 def test_where_to_listen(text, place):
     assert host_and_port(text, 8080) == place
+    assert place_word(text) == text
+
+
+@pytest.mark.parametrize("text", ["127.0.0.1:99999", "[::1]:65536", "a:0", ":123456"])
+def test_what_is_no_port_to_listen_at(text):
+    with pytest.raises(argparse.ArgumentTypeError, match="is no port from 1 to 65535"):
+        place_word(text)
 
 
 def test_an_address_of_another_machine_is_told_apart_from_a_port_that_is_held(monkeypatch):

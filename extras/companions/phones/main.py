@@ -8,7 +8,7 @@ import sys
 import time
 from typing import Optional
 
-from companions.arguments import add_program, address_word, count_word, minutes_word, port_word
+from companions.arguments import add_program, address_word, count_word, minutes_word, place_word, port_word
 from companions.clock import Clock, keep_clock
 from companions.codes import kept_secret, secret_for
 from companions.program import Declined, ready
@@ -59,7 +59,7 @@ def parser() -> argparse.ArgumentParser:
     at = "the address that stands on the slips, as http://192.168.1.10:8080; FILE.phones keeps it"
     add("--at", type=address_word, metavar="ADDRESS", help=at)
     listen = "where to listen, if that is another place, as behind a proxy: 127.0.0.1:8080"
-    add("--listen", metavar="HOST:PORT", help=listen)
+    add("--listen", type=place_word, metavar="HOST:PORT", help=listen)
     add("--behind-proxy", action="store_true", help="a proxy on this machine hands requests on")
     both = words.add_mutually_exclusive_group()
     both.add_argument(
