@@ -126,6 +126,19 @@ def test_a_player_drops_after_the_shutting(prompt, begin):
     assert seats(file, 1) == [[2, 4], [6, 1], [5, 7]]
 
 
+def test_another_game_score_after_the_shutting(prompt, begin):
+    """It has the same winner, so that nothing but the mark would tell."""
+    file = begin()
+    prompt.said(file, "pair", "pair 17 3 8 11", *scored(3), "pair")
+    said = prompt.said(file, "fix 1 1 2 1", "y", "pair 5 5 5 5")
+    check_said("it is told", unfilled(said), "Round 2, drawing 2: since the lists were shut before, round 1, table 1 is otherwise.")
+    there = text_of(file, 2, 2)
+    prompt.said(file, "back 2", "y", "fix 1 1 2 0", "y", "pair")
+    assert [lines_of(it)["key"] for it in (there, text_of(file, 2, 3))] == [key_of(2, "5 5 5 5")] * 2
+    assert lines_of(there)["mark"] != lines_of(text_of(file, 2, 3))["mark"]
+    assert there.split(b"drawn.csv\n")[1] == text_of(file, 2, 3).split(b"drawn.csv\n")[1]
+
+
 # ---- what is typed
 
 
