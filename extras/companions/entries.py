@@ -4,6 +4,7 @@ takes it: a row for each, with when and from where. It is there while entering i
 from __future__ import annotations
 
 import csv
+import errno
 import io
 import os
 import time
@@ -64,9 +65,14 @@ class Entries:
         data = line.getvalue().encode("utf-8")
         handle = os.open(self.path, os.O_RDWR | os.O_APPEND)
         with open(handle, "rb+", buffering=0) as entries:
-            if os.fstat(handle).st_size + len(data) > MOST_BYTES:
+            size = os.fstat(handle).st_size
+            if size and os.pread(handle, 1, size - 1) != b"\n":
+                # a line that was broken off stays alone
+                data = b"\n" + data
+            if size + len(data) > MOST_BYTES:
                 raise NotEntered("list_is_full")
-            entries.write(data)
+            if entries.write(data) != len(data):
+                raise OSError(errno.ENOSPC, "no room is left on the disk")
             os.fsync(handle)
 
     def strike(self, row: int) -> bool:

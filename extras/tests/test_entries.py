@@ -1,5 +1,7 @@
 """FILE.entries, the names that players enter before they are enrolled."""
 import os
+import resource
+import signal
 import stat
 
 import pytest
@@ -42,6 +44,28 @@ def test_whoever_is_there_is_not_entered_twice(entries):
     for name in ("Zoë Kim", "zoë  kim", "ZOE\u0308 KIM"):
         entries.add(name, "10.0.0.7")
     assert [entry.name for entry in entries.all()] == ["Zoë Kim"]
+
+
+def test_a_line_that_was_broken_off_stays_alone(entries):
+    with open(entries.path, "a") as written:
+        written.write("Ana Li")
+    entries.add("Bo Sato", "10.0.0.7")
+    assert [entry.name for entry in entries.all()] == ["Ana Li", "Bo Sato"]
+
+
+def test_a_name_for_which_there_is_no_room_is_not_entered(entries):
+    """The disk takes a part of the line: whoever entered it is told, and enters it again."""
+    room = resource.getrlimit(resource.RLIMIT_FSIZE)
+    before = signal.signal(signal.SIGXFSZ, signal.SIG_IGN)
+    resource.setrlimit(resource.RLIMIT_FSIZE, (os.path.getsize(entries.path) + 5, room[1]))
+    try:
+        with pytest.raises(OSError):
+            entries.add("Ana Lima", "10.0.0.7")
+    finally:
+        resource.setrlimit(resource.RLIMIT_FSIZE, room)
+        signal.signal(signal.SIGXFSZ, before)
+    entries.add("Ana Lima", "10.0.0.7")
+    assert entries.all()[-1].name == "Ana Lima"
 
 
 @pytest.mark.parametrize("name", ["", "a" * 61, "\x00", "a\nb", "a\x1b[2J", "a\u202eb", "é" * 31])
