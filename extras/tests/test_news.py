@@ -85,6 +85,21 @@ def test_a_score_that_came_as_a_line_was_entered_is_told_before_the_next(session
     assert news.lines() == []
 
 
+def test_a_fault_of_the_news_is_told_once_and_they_go_on(session, monkeypatch):
+    news, faults = News(session), [ZeroDivisionError("why"), ZeroDivisionError("why")]
+
+    def tell():
+        if faults:
+            raise faults.pop()
+        news.is_over.set()
+
+    monkeypatch.setattr("companions.prompt.news.SECONDS_BETWEEN_NEWS", 0.001)
+    monkeypatch.setattr(news, "tell", tell)
+    news.go_on()
+    ((_, told),) = session.lines.typing.said
+    assert "The prompt itself is at fault: ZeroDivisionError: why" in told
+
+
 def test_news_count_as_read_after_some_seconds(file, session, monkeypatch):
     at = Session(SimpleNamespace(turn=None), file, session.lines)
     round_2, now = Progress(2, (), False, 7), 100.0

@@ -5,7 +5,6 @@ import cmd
 import difflib
 import os
 import re
-import traceback
 from typing import Optional
 
 from companions.event import Phase
@@ -24,7 +23,7 @@ from companions.prompt.players import Players
 from companions.prompt.printing import Printing
 from companions.prompt.results import Results
 from companions.prompt.rounds import Rounds
-from companions.prompt.session import Session, prompt_at, why_not_used
+from companions.prompt.session import Session, own_fault, prompt_at, why_not_used
 from companions.prompt.texts import (
     ALL_COMMANDS,
     BEGINNING,
@@ -46,16 +45,6 @@ LIKENESS = 0.8
 
 def of_file(fault: OSError) -> str:
     return f"{visible(str(fault.filename or 'A file'))}: {fault.strerror or fault}"
-
-
-def own_fault(fault: Exception) -> str:
-    """A fault of the prompt itself, with the place to name when it is reported."""
-    at = traceback.extract_tb(fault.__traceback__)[-1]
-    where = f"{os.path.basename(at.filename)}, line {at.lineno}"
-    return (
-        f"The prompt itself is at fault: {type(fault).__name__}: {visible(str(fault))[:200]}\n"
-        f"({where}). What was answered ok is in the file. See: where"
-    )
 
 
 def only(word: str, rest: str) -> None:

@@ -12,7 +12,7 @@ from companions.event import Event, Progress, shown_player
 from companions.lists import Match, Players
 from companions.program import FAULTS, Source, Stamp
 from companions.prompt.lines import WIDTH
-from companions.prompt.session import Session, prompt_at
+from companions.prompt.session import Session, own_fault, prompt_at
 from companions.reports import (
     CALLS,
     CALLS_OFF,
@@ -46,6 +46,8 @@ class News:
         self.told = len(self.reports.all)
         # what came, and could not be told
         self.untold: list[Report] = []
+        # of these news themselves, as it was told last
+        self.fault = ""
         self.troubles = Told()
         self.entries = Entries(session.file)
         self.entered = len(self.entries.all())
@@ -106,7 +108,16 @@ class News:
         """Tells what comes in while a line is typed, above it."""
         while not self.is_over.wait(SECONDS_BETWEEN_NEWS):
             if self.session.lines.is_asking:
-                self.tell()
+                try:
+                    self.tell()
+                except Exception as fault:
+                    self.tell_own(own_fault(fault))
+
+    def tell_own(self, fault: str) -> None:
+        """A fault of the news, once. What comes after it is told as ever."""
+        if fault != self.fault:
+            self.fault = fault
+            self.session.lines.say_above([fault], self.session.lines.asked)
 
     def tell(self) -> None:
         """What is found out while a line is typed is told above that line. If it was entered meanwhile, what

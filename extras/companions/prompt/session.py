@@ -8,6 +8,7 @@ import shutil
 import tempfile
 import textwrap
 import time
+import traceback
 from dataclasses import dataclass
 from typing import Callable, Optional
 
@@ -473,6 +474,16 @@ def prompt_at(progress: Progress) -> str:
     if progress.is_cut:
         return "playoff> "
     return f"r{progress.number}> " if progress.number else "desk> "
+
+
+def own_fault(fault: Exception) -> str:
+    """A fault of the prompt itself, with the place to name when it is reported."""
+    at = traceback.extract_tb(fault.__traceback__)[-1]
+    where = f"{os.path.basename(at.filename)}, line {at.lineno}"
+    return (
+        f"The prompt itself is at fault: {type(fault).__name__}: {visible(str(fault))[:200]}\n"
+        f"({where}). What was answered ok is in the file. See: where"
+    )
 
 
 def why_not_used(file: str) -> str:
