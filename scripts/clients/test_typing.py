@@ -131,6 +131,8 @@ def test_what_is_out_of_sight_is_said_again(prompt, room):
     check_said("standings", said, "These are the standings before round 1 is complete. The first eight: standings top 8")
     assert "These are" not in terminal.send("standings 8")
     prompt.said(file, *(f"{table} 2 0" for table in range(1, 26)), "drop 1", "y", "plan 1 2", "cut", "y", "play final 2 0")
+    # what another window did is told above the line, at any time, and is no answer to what is typed next
+    assert "nother window" in unfilled(terminal.read_for(b"playoff> "))
     check_said("standings after a round", unfilled(terminal.send("standings")), "These are the standings after round 1. The first eight: standings top 8")
     champion = player_shown(read(file), read(file).stages[0][0][0])
     said = terminal.send("final")
