@@ -260,6 +260,26 @@ def test_a_key_that_the_scorekeeper_chooses_is_told_for_ever(prompt, begin):
     assert lines_of(text_of(file, 1, 4))["key"] == key_of(1, NUMBER)
 
 
+@pytest.mark.parametrize("lines", [("pair new",), ("draw off", "y", "pair")])
+def test_a_chosen_key_is_taken_again(prompt, begin, lines):
+    """As `back` says, and as somebody does who goes on with a copy."""
+    file = begin()
+    prompt.said(file, *lines)
+    before, keys = seats(file, 1), keys_of(file)
+    check_said("back", prompt.said(file, "back 1", "y"), f"Its key, for: pair again\n  {keys[0][1].hex()}")
+    check_said("again", prompt.said(file, "pair again"), "Round 1: KEY CHOSEN BY THE SCOREKEEPER, lists shut 2 times")
+    assert (seats(file, 1), keys_of(file)) == (before, keys)
+    assert [lines_of(text_of(file, 1, 2))[it] for it in ("number", "key")] == ["-", keys[0][1].hex()]
+
+
+def test_a_drawn_round_is_paired_again_once_the_draw_is_ended(prompt, begin, capsys):
+    file = begin()
+    said = prompt.said(file, "pair", "pair 17 3 8 11", "draw off", "y", "back 1", "y", "pair again")
+    check_said("by its number", said, "Round 1: number 3 8 11 17, lists shut 2 times, text 214a")
+    assert event_check.main([file]) == 0, capsys.readouterr().out
+    check_said("a round without a key", prompt.said(file, *scored(3), "pair again"), f"{file}.keys has no key for round 2. A new one: pair")
+
+
 def test_once_thrown_for_all_rounds(prompt, begin):
     file = begin(FOUR, rule="draw on once 4d20")
     prompt.said(file, "pair", "pair 17 3 8 11", *scored(2))

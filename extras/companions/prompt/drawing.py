@@ -8,7 +8,7 @@ import os
 import re
 import secrets
 import tempfile
-from dataclasses import dataclass
+from dataclasses import dataclass, replace
 from typing import Iterator, Optional
 
 from companions.checking import copies_before, differing_tables, keys_of, opened, paired_copy
@@ -223,6 +223,7 @@ class Drawing:
                 self.make_missing_text()
                 number = len(session.event.rounds) + 1
                 self.must_be_due(number)
+                wanted = self.with_kept_key(number, wanted)
                 lists = lists_now(session.source)
                 if not self.has_number(number, wanted, lists):
                     return
@@ -254,6 +255,15 @@ class Drawing:
         raise Declined(
             f"Rounds are drawn, and {minutes} alone is no throw.\nFor a clock of {minutes} minutes: {way}"
         )
+
+    def with_kept_key(self, number: int, wanted: Wanted) -> Wanted:
+        """Where no number counts for the round, `pair again` takes the key by which it was paired before."""
+        if wanted.word != "again" or (self.draws.is_on and self.draws.numbers(number)):
+            return wanted
+        key = self.session.keys.last(number)
+        if not key and not self.draws.is_on:
+            raise Declined(f"{self.session.file}.keys has no key for round {number}. A new one: pair")
+        return replace(wanted, word=key) if key else wanted
 
     def must_be_due(self, number: int) -> None:
         """What would be refused is refused before anything is shut: the program pairs a copy."""
@@ -308,9 +318,10 @@ class Drawing:
         drawing = self.drawing_for(number, lists)
         is_chosen = wanted.is_chosen or bool(rule and rule.is_off)
         key = chosen_key(wanted.word) if is_chosen else key_of(number, self.draws.numbers(number)[-1].number)
+        is_new = session.keys.last(number) != key
         copy = session.copies.make(f"pair-{number}")
         try:
-            if session.keys.last(number) != key:
+            if is_new:
                 session.keys.append(number, key)
         except OSError:
             session.copies.remove(copy)
@@ -319,7 +330,7 @@ class Drawing:
             self.rounds.send_pair(number, key, copy)
         except FAULTS as fault:
             # a number's key stays its key; a chosen one could be read meanwhile
-            if is_chosen and self.rounds.is_unused(number, fault):
+            if is_chosen and is_new and self.rounds.is_unused(number, fault):
                 session.keys.mark_unused(number, key)
             raise
         self.must_be_by(key, number, copy)
