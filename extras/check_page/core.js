@@ -556,7 +556,7 @@ function working(text, number) {
   if (!me) return null;
   const shown = (share) => `${share.top}/${share.bottom} = ${printed(share)}`;
   const lines = [
-    `${me.player.name} (${number}): rank ${me.rank}, ${me.points} points in ${me.rounds + me.missed} rounds`
+    `${me.player.name} (${number}): rank ${me.rank}. Points: ${me.points}, rounds: ${me.rounds + me.missed}`
       + `${me.missed ? `, ${me.missed} of them missed` : ""}`,
     `GWP: ${me.gamePoints} of ${3 * me.games} game points: ${shown(me.gameWins)}`,
   ];

@@ -194,7 +194,7 @@ def test_how_tiebreakers_come_about_on_a_phone(plain, file, tmp_path):
     # P2 won by 2-0 against P3, who has nothing
     assert found.status == 200 and "P2</bdi> (2)" in found.text
     shares = "GWP 6/6 -&gt; 1/1 = 100.00", "MWP 0/3 -&gt; 33/100 = 33.00"
-    due = "Rank 1, 3 points in 1 rounds", "2-0-0", *shares
+    due = "Rank 1. Points: 3, rounds: 1", "2-0-0", *shares
     assert [words for words in due if words not in found.text] == []
     assert "WRONG" not in found.text and 'href="/who/2"' in room.ask("GET", "/?q=P2").text
     assert room.ask("GET", "/who/9").status == 404

@@ -339,7 +339,7 @@ def test_standings_and_the_working_behind_them(program, checked, room, dice):
     status, said = checked(f"{room}/players", f"{room}/results", f"{room}/standings", "--who", "3")
     assert (status, right in said) == (0, True)
     row = next(line.split() for line in event.standings()[1:] if line.split()[1] == "3")
-    assert f"(3): rank {row[0]}, {row[2]} points in " in said
+    assert f"(3): rank {row[0]}. Points: {row[2]}, rounds: " in said
     assert [said.count(f"= {share}") > 0 for share in row[3:6]] == [True] * 3
     assert said.endswith("\n  no MWP or GWP counts as less than 33\nChecked: 1 list of standings. Nothing is wrong.\n")
     with open(f"{room}/standings", "wb") as it:

@@ -284,7 +284,7 @@ def say_working(event, player):
     share = lambda it: f"{it.numerator}/{it.denominator} = {printed(it)}"
     merits, row = event.merits(), next(it for it in rows_due(event) if it[1] == str(player))
     points, rounds, game_points, games = event.totals(player)
-    print(f"{visible(event.names[player - 1])} ({player}): rank {row[0]}, {points} points in {rounds} rounds")
+    print(f"{visible(event.names[player - 1])} ({player}): rank {row[0]}. Points: {points}, rounds: {rounds}")
     print(f"  GWP: {game_points} of {3 * games} game points: {share(merits[player][2])}")
     for number, matches in enumerate(event.stored, 1):
         other = next((b if a == player else a for a, b, score in matches if player in (a, b)), None)
