@@ -226,6 +226,14 @@ def test_more_dice_those_who_threw_and_a_clock(prompt, begin):
     assert [lines_of(text_of(file, 1))[it] for it in ("number", "by", "instead")] == ["1 1 7 20 20", "2 6", "-"]
 
 
+def test_one_who_threw_and_is_gone_after_back(prompt, begin, capsys):
+    """A latecomer, who was enrolled after the copy was made."""
+    file = begin(FOUR)
+    prompt.said(file, "pair", "pair 1 1 1 1", *scored(2), "enrol Late", "pair", "pair 2 2 2 2 by 5 2", "back 1", "y", "pair", *scored(2), "pair")
+    assert [lines_of(text_of(file, 2, drawing))["by"] for drawing in (1, 2)] == ["2 5", "2"]
+    assert event_check.main([file]) == 0, capsys.readouterr().out
+
+
 def test_a_mistyped_number_is_shown_for_ever(prompt, begin):
     file = begin(FOUR)
     check_said("there is none", prompt.said(file, "number 1 3 8 11 18"), "Round 1 has no number yet.")

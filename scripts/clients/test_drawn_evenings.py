@@ -39,7 +39,8 @@ class DrawnEvening:
         return said
 
     def throw(self):
-        return " ".join(str(self.dice.randint(1, 20)) for _ in range(self.dice.choice((4, 4, 5))))
+        thrown = " ".join(str(self.dice.randint(1, 20)) for _ in range(self.dice.choice((4, 4, 5))))
+        return f"{thrown} by {self.dice.randint(1, len(self.event.names))}" if self.maybe(0.3) else thrown
 
     def begin(self):
         rule = self.dice.choice(("draw on", "draw on", "draw on 4d20", "draw on once 4d20"))

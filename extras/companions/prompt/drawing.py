@@ -93,6 +93,12 @@ def chosen_key(word: str) -> str:
     return word.lower() if len(word) == 64 else secrets.token_hex(32)
 
 
+def throwers_in(by: str, lists: Lists) -> str:
+    """Those who threw, as far as the lists have them: after `back` a latecomer may be gone."""
+    players = players_of(lists.players.decode())
+    return by if by == NONE else by_of(number for number in map(int, by.split(" ")) if number in players)
+
+
 def lists_now(source: Source) -> Lists:
     """Both lists, for which the turn is held, so that they are of one state of the event."""
     return Lists(source.ask("export", "players").encode(), source.ask("export", "results").encode())
@@ -372,7 +378,8 @@ class Drawing:
         # one that was typed again counts again
         instead = "; ".join(it.number for it in others if it.number != used.number) or NONE
         tables, after = tables_of(results, number), self.draws.last_sum()
-        return DrawText(number, drawing, after, used.number, used.by, instead, key, lists, tables)
+        by = throwers_in(used.by, lists)
+        return DrawText(number, drawing, after, used.number, by, instead, key, lists, tables)
 
     # ---- other lines, while the lists are shut
 
