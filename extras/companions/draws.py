@@ -144,6 +144,8 @@ class Draws:
             written.write(f"{broken_off}round {number} {kept.number}{by}\n".encode())
             written.flush()
             os.fsync(written.fileno())
+        # boards and phones look at the folder's time, which a line more in a file doesn't change
+        os.utime(self.folder)
         sync_folder(self.folder)
 
     # ---- beside copies of the event

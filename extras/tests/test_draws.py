@@ -44,6 +44,13 @@ def test_numbers_are_appended(draws):
     assert draws.numbers(3) == draws.numbers(1)
 
 
+def test_pages_see_by_the_folder_that_a_number_was_kept(draws):
+    draws.keep_number(1, Kept("1 2 3 4"))
+    os.utime(draws.folder, (1, 1))
+    draws.keep_number(1, Kept("1 2 3 5"))
+    assert os.stat(draws.folder).st_mtime > 1
+
+
 def test_a_number_that_was_broken_off_is_none(draws):
     draws.make_folder()
     with open(draws.numbers_path, "w") as written:
