@@ -86,9 +86,14 @@ class Rule:
         return self.text.startswith("off")
 
     @property
+    def drawn_by(self) -> str:
+        """The rule by which rounds are drawn, or were until the draw was ended."""
+        return self.text.replace(ENDED, "", 1)
+
+    @property
     def is_once(self) -> bool:
         """Whether the number of round 1 is that of each round, also of those drawn before the draw was ended."""
-        return self.text.replace(ENDED, "").startswith("once")
+        return self.drawn_by.startswith("once")
 
     @property
     def ended(self) -> Rule:

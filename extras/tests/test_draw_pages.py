@@ -94,6 +94,14 @@ def test_a_round_that_was_drawn_again(plain, file):
     assert [words for words in due if words not in text] == []
 
 
+def test_a_round_that_was_drawn_before_the_draw_was_ended(plain, file):
+    rule = rule_of("each 4d20")
+    Draws(file).keep_rule(rule)
+    draw_round(file, plain)
+    Draws(file).keep_rule(rule.ended)
+    assert "Rule: each 4d20. The digits" in page(plain, file, ["draw"])
+
+
 def test_a_chosen_key_in_place_of_a_number(plain, file, tmp_path):
     """The number that was passed over is told with it."""
     data = text_bytes(plain, 1, 1, BEFORE_THE_FIRST, "3 8 11 17")

@@ -149,7 +149,7 @@ class Drawing:
             self.draws.forget_rule()
             session.say("Nothing is drawn.")
             return
-        question = "From now on each round says: key chosen by the scorekeeper. It can't be put on again."
+        question = "From now on each round says that you could steer it. It can't be put on again."
         if not session.lines.says_yes(f"{question} End the draw?"):
             raise Declined("Rounds are drawn as before.")
         self.draws.keep_rule(rule.ended)

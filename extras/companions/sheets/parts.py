@@ -217,8 +217,8 @@ def draw_part(event: Event, number: int, say: Say) -> Optional[Part]:
     if not text:
         return Part("draw", what, draw=DrawShown(rule.text, ""))
     square = square_of(text.data, error="l")
-    found = "" if not text.is_drawn else text.number
-    shown = DrawShown(rule.text, found, lines_below(text, event, say), shown_digits(text.sum), square)
+    found, by = (text.number, rule.drawn_by) if text.is_drawn else ("", rule.text)
+    shown = DrawShown(by, found, lines_below(text, event, say), shown_digits(text.sum), square)
     return Part("draw", what, draw=shown)
 
 
