@@ -32,12 +32,13 @@ use Rattle.er_cli.specs.Tasks.Work.{Commands, Migration}
 use Rattle.er_cli.specs.declared.left.Left.{Left}
 use Rattle.er_cli.specs.declared.left.Left.TheVariants.{Nothing}
 
--- There is no file, as far as that is known, or memory or the device fails before it is opened.
+-- No file is given back. It is refused that there is no event, which comes only if it isn't known that the file is there, or for memory or
+-- by the device.
 abbrev pub IsNotThere : {D : Type 0} {g : disk.Ghosts D} → (is_there : Option Bool) → Refusal → Left D g → Type 0
 IsNotThere is_there why what = (what ≡ Nothing) × (((why ≡ NoEvent) × (is_there ≢ Some true)) ⊎ IsFault why)
 
--- The event was not opened. No event and a damaged table are the first fault of what the file held, and what is left holds just that:
--- no table of it changes, and a crash leaves nothing else.
+-- The event was not opened. Of a file that was opened, on a clean disk, no event and a damaged table are the first fault of what it held,
+-- and what is left holds just that, after a crash too. Of files that were not opened, what the storage crate says of them.
 pub record IsNotOpened {D : Type 0} {g : disk.Ghosts D} (image : Image) (why : Refusal) (what : Left D g) : Type 0 where
   pub cause : (why ≡ NoEvent) ⊎ IsLoadFault why
   pub unopened : IfUnopened (SparesAt image) why what
@@ -66,7 +67,7 @@ pub record HasMadeNone {D : Type 0} {g : disk.Ghosts D} (image : Image) (new : P
       × RecoversSuch (Either (λ trees. trees ≡ db) (IsStoredBeside 2 new.event old)) what
 
 -- An event was made, and its file put away: where no foreign key waited for its tables this begins the empty history, with which the next
--- command line goes on. Or it was not. What may not be set up so is refused before any file is touched.
+-- command line goes on. Or it was not. What may not be set up so is refused, and no file is given back.
 abbrev pub MakesEvent : {D : Type 0} (g : disk.Ghosts D) → Image → List ℕ → ℕ → ℕ → Told → Left D g → Type 0
 MakesEvent {D} g image name rounds cut told what =
     (IsSetUp name rounds cut × (told ≡ Accepted (receipt 0))

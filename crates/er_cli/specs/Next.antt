@@ -34,9 +34,9 @@ abbrev pub RecoversIn : (ℕ → Type 0) → Point → List Ended → Session �
 RecoversIn In new ends session image =
     (last : Placed) × In last.version × RecoversHistory image new (and_then ends session last.point) last
 
--- The files of a store that was not closed. Each thing that an opening after a crash may find there is an end of the history with this
--- session, and the next one begins there. The same of the bytes that a crash may leave, if the store lists its tables by number: each does that this
--- program opens, until copying its log has failed.
+-- The files of a store that was not closed. Each thing that the store would find after a crash, by its own list of tables, is an end of the
+-- history with this session, and the next one begins there. If the store lists its tables by number, the bytes that a crash may leave were
+-- left by that history.
 pub record KeepsNext {D : Type 0} (d : disk.Ghosts D) (In : ℕ → Type 0) (new : Point) (ends : List Ended) (session : Session)
     (store : FileStore D d) : Type 0 where
   pub begins : (trees : Trees) → recovers store trees → (version : ℕ) × In version × NextBegins new ends session version trees
@@ -52,17 +52,17 @@ RecoversSession d In new ends session (left.Closed files) =
 RecoversSession d In new ends session (left.Unclosed store) = IsClean (view store) → KeepsNext d In new ends session store
 RecoversSession d In new ends session (left.Unopened rest) = Unit {0}
 
--- a file was opened and put away, closed or not
+-- what is given back are closed files, or a store that was not closed
 abbrev pub WasOpened : {D : Type 0} {d : disk.Ghosts D} → Left D d → Type 0
 WasOpened left.Nothing = ⊥
 WasOpened (left.Closed files) = Unit {0}
 WasOpened (left.Unclosed store) = Unit {0}
 WasOpened (left.Unopened rest) = ⊥
 
--- The file was opened, its desk was asked this session, and it was put away.
+-- A file was opened and put away. On a clean disk the next command line finds the history with this session behind it.
 pub record GoesTo {D : Type 0} (d : disk.Ghosts D) (In : ℕ → Type 0) (new : Point) (ends : List Ended) (session : Session) (what : Left D d)
     : Type 0 where
   pub put_away : WasOpened what
   pub leaves : RecoversSession d In new ends session what
-  -- where a command is in doubt, nothing tried to copy the log after it
+  -- where a command is in doubt, a store that was not closed lists its tables by number
   pub spared : (session.in_doubt ≡ None → ⊥) → ListsByNumber what

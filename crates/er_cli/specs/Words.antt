@@ -59,7 +59,7 @@ module _ {D : Type 0} (g : disk.Ghosts D) (world : World) (got : Option (List Go
 
 pub record EndsWords {D : Type 0} (g : disk.Ghosts D) (world : World) (got : Option (List Got)) (words : List (List ℕ)) (what : Left D g)
     (p : Printed) : Type 0 where
-  -- A text that the words ask for goes to the output, and no file is touched.
+  -- A text that the words ask for goes to the output, and no file is given back.
   pub asked : IfSome (text_for words) (λ text. (what ≡ Nothing) × Says text DONE p.out p.err p.status)
   -- Of what asks for no text and is no command line, the errors get what is wrong with it, and the output stays as it is.
   pub unread : IsFalse (asks_text words) → line_of words ≡ None → (what ≡ Nothing) × EndsAsUsage words p

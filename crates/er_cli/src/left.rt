@@ -2,10 +2,10 @@ use er_event::Refusal;
 use sqlite::{FileStore, Files, Leftover};
 use sqlite_disk::Disk;
 
-/// What a command line leaves of the file of an event. Whoever holds it still holds the file, so that nobody else writes that.
+/// What a command line gives back of the file of an event. Whoever has it still holds the file, so that nobody else writes that.
 #[derive(Drop)]
 pub enum Left<D: Disk + Drop> {
-    /// Nothing is held of it: no file was opened.
+    /// No file is given back. Whether one was opened before, this doesn't say.
     Nothing,
     /// It was closed: the log is copied into the database file.
     Closed(Files<D>),

@@ -212,8 +212,8 @@ pub fn run_on<H: Host, O: Print, E: Print>(
     requires shut { IsTrue (H.is_shut host.old) }
     // The theorem. Of a file that a history of a new event left, the history goes on with what is asked of the desk: the one command,
     // enrolments, scores, or nothing. The answer is that of the event at its end; and in what is left of the file the next command line
-    // finds it. `init` makes no other event there. Or the answer is one that comes before the file is opened: that it isn't there, or that
-    // memory or the device is wanting. Then nothing is left.
+    // finds it. `init` makes no other event there. Or the event was not opened, and the answer says why; or no file is given back, and the
+    // answer is that there is no event, which comes only if it isn't known that the file is there, or a fault of memory or of the device.
     ensures goes_on { GoesOnWords H.File.Disk (H.world host.old)
         (map string_bytes words.now) result.left (prints (O.printed out.old) (O.printed out.new)
         (E.printed err.old) (E.printed err.new) result.status) }

@@ -5,7 +5,7 @@ ghost use Rattle.er_cli.specs.Setup.{is_setup};
 use er_event::{Event, Name, Refusal};
 use std::alloc::Global;
 
-/// The name of an event, where it may be set up so. This is checked before any file is touched.
+/// Returns the name of an event that may be set up so, or `BadSetup`.
 pub fn set_up(alloc: Global, name: &[u8], rounds: u8, cut: u8) -> Result<Name, Refusal>
     ensures ok { IfOk result (λ read. (read ≡ name.now) × IsTrue (is_setup name.now rounds cut)) }
     ensures within { IfOk result (λ _. AreLimits rounds cut) }

@@ -2,9 +2,9 @@
 -- commands makes, one that holds every acknowledged command. The standings are those that the rules define on it, and no stored round of it
 -- repeats an opponent or a bye.
 --
--- What it supposes: the creation of the event, in an empty file, was acknowledged; nobody else writes the file, and the
--- device returns what was written and keeps the storage crate's model of crashes (`HasCleanDisk`, in each `AfterCrash`);
--- an opening begins on what a crash may leave.
+-- What it supposes: the creation of the event was acknowledged, in a file in which no foreign key names one of its tables (`NoneAwaitsIn`
+-- of Opening); nobody else writes the file, and the device returns what was written and keeps the storage crate's model of crashes
+-- (`HasCleanDisk`, in each `AfterCrash`); an opening begins on what a crash may leave.
 use Rattle.std.specs.Prelude.{◌≡◌, ◌⊎◌, ℕ, List, [], ◌∷◌, ◌++◌, AllPairs, IsFalse}
 use Rattle.sqlite_trees.specs.declared.store.Store.{Ghosts}
 use Rattle.sqlite.specs.Tree.{Trees}
