@@ -11,6 +11,23 @@
 -- numbers and names the thirty refusals.
 --
 -- What private functions alone cite lies in `inside`.
+--
+-- Which contract carries it; 'sound' leaves out the seeds of the playoff:
+--   The invariant of `Event`, which `laws::events_are_sound` repeats: no value of the type is unsound.
+--   `Event::create`, `Name::try_from_bytes`, `Score::swiss`, `Score::playoff`: taken exactly if the rule says so.
+--   `Event::fits`: exactly whether a change fits. `apply` gives the event after one that does, or the event as it was if memory runs out,
+--     which is never so for a drop, a phase or a Swiss score. `laws::changes_keep_sound` says what is enough for each change; `has_name`,
+--     `player`, `stored`, `cut`, `match_at` and `slot_at` say which changes fit for sure.
+--   `Event::from_parts`: of rows the one sound event that has them, or the first table at fault, in the order event, player, pairing,
+--     bracket; memory aside.
+--   `totals`, `all_totals`, and both after a change: what a player has from the complete rounds, with no memory. `has_tallies` says exactly
+--     whether rows of totals are the event's, `recount_of` whose totals a change may alter: all others keep theirs.
+--   `Refusal::number`, `name`, `Display`: the number and the name of each refusal, and how it is shown.
+--
+-- Not promised: that a playoff has the seeds of the standings (`IsSound` of er_rules).
+--
+-- Wrong bodies that bear on the theorem: `counts_open_round`, `correction_added_twice`, `pairs_again`, `trusts_the_file`,
+-- `admits_bad_rows`, `admits_bad_rows_of_the_bracket`; of versions `twelve_in_version_1`, `nine_rounds_in_version_2`, `version_3_is_read`.
 pub mod Refusal
 pub mod Score
 pub mod Name

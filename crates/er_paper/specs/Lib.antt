@@ -5,6 +5,20 @@
 -- what was written. Slip is a match as JSON, and the games of one that is handed in.
 --
 -- What private functions alone cite lies in `inside`.
+--
+-- Which contract carries it:
+--   `standings_text` (clauses `value` and `only`), `rows_text`, `players_text`, `pairings_text`, `bracket_text`, `players_csv`,
+--     `results_csv`, `slip_json`: the bytes of the formats. A round that isn't stored has no text.
+--   `read_slip`: the games, exactly if the bytes are a JSON object with the keys `a`, `b` and `d` and no other, each a whole number from 0
+--     to 255.
+--   `read_players_csv`, `read_results_csv`: the lines, exactly if each row keeps the rules; otherwise a faulty heading, or the first bad
+--     row.
+--   `laws::players_read_back`, `results_read_back`: what is written of a sound event is read as its players or its matches, and as nothing
+--     else.
+--
+-- Each may be refused for memory. Which records a text has, after a byte order mark, is the definition of the `csv` crate (`HasRecords`).
+--
+-- Wrong body that bears on the theorem: `lenient_slip`.
 pub mod Column
 pub mod Texts
 pub mod Csv

@@ -5,6 +5,17 @@
 -- and is what words mean; Fields is what a line of a script is, and Usage what is at fault in words that are no line.
 --
 -- What private functions alone cite lies in `inside`.
+--
+-- Which contract carries it:
+--   `read_words`, `read_line`: just what the words mean, or `Usage` with the first fault, exactly if they mean nothing. Words of which one
+--     begins with `-` mean nothing.
+--   `text`, `small_number`, `number`, `seed`, `count`, `list_kind`, `score`, `end`: a word as what it is, or that there is none, a wrong
+--     one, or one too many.
+--   `name_of`: any word, to the byte.
+--
+-- Each may be refused for memory. Whether a name or a score is lawful is no matter of words: er_event and er_rules say it.
+--
+-- Wrong body that bears on the theorem: `swapped_words`.
 pub mod Values
 pub mod Kinds
 pub mod Faults
