@@ -1,6 +1,7 @@
 """Looks whether each name that docs/PROOF.md has in backticks is there, in a crate that its row, its line or its section names: a function,
-a clause, a definition of specs/ or one of its fields, a type, a variant, a module, a file of specs/, or a wrong body. Names of the kit are looked up in its
-crates, and words of the program in its help. `python3 -B -m scripts.gate.proof_names` ends with status 1 if one is missing.
+a clause, a definition of specs/ or one of its fields, a type, a variant, a module, a file of specs/, or a wrong body. The comments of each crate's
+specs/Lib.antt are read as a section of that crate. Names of the kit are looked up in its crates, and words of the program in its help.
+`python3 -B -m scripts.gate.proof_names` ends with status 1 if one is missing.
 """
 import functools
 import glob
@@ -114,9 +115,9 @@ def whole_lines(text):
     return whole
 
 
-def missing_in(text):
-    """Each name of the page that is not there, with the number of its line."""
-    section, is_body = all_crates(), False
+def missing_in(text, section=None):
+    """Each name of the page that is not there, with the number of its line. Before its first heading the page speaks of `section`, or of all."""
+    section, is_body = section or all_crates(), False
     for number, line in whole_lines(text):
         if line.startswith("#"):
             section, is_body = CRATE.findall(line) or all_crates(), "rong bodies" in line or (is_body and line.startswith("###"))
@@ -128,18 +129,33 @@ def missing_in(text):
                 yield number, name, asked
 
 
+def comments_of(path):
+    """The comments at the head of a file of specs/, each on the line that it has there."""
+    with open(path, encoding="utf-8") as it:
+        return "\n".join(line[3:].strip() if line.startswith("-- ") else "" for line in it)
+
+
+def report(page, text, section):
+    """Prints which names of a page are missing, and returns how many."""
+    missing = list(missing_in(text, section))
+    for number, name, crates in missing:
+        where = "any crate" if len(crates) > 5 else " or ".join(sorted(set(crates)))
+        print(f"{page}:{number}: `{name}` is not in {where}")
+    print(f"{len(set(CODE.findall(text)))} names and words of {page}, {len(missing)} missing")
+    return len(missing)
+
+
 def main():
     for page, count in CONTROLS.items():
         if len(list(missing_in(page))) != count:
             print(f"of this page not {count} names are missing: {page!r}")
             return 1
     with open(PAGE, encoding="utf-8") as it:
-        text = it.read()
-    missing = list(missing_in(text))
-    for number, name, crates in missing:
-        where = "any crate" if len(crates) > 5 else " or ".join(sorted(set(crates)))
-        print(f"docs/PROOF.md:{number}: `{name}` is not in {where}")
-    print(f"{len(set(CODE.findall(text)))} names and words of docs/PROOF.md, {len(missing)} missing")
+        missing = report("docs/PROOF.md", it.read(), None)
+    for crate in all_crates():
+        path = f"crates/{crate}/specs/Lib.antt"
+        if os.path.exists(f"{TOP}/{path}"):
+            missing += report(path, comments_of(f"{TOP}/{path}"), [crate])
     return 1 if missing else 0
 
 
