@@ -13,7 +13,7 @@ from typing import Optional
 from companions.turn import Turn
 
 
-# up to so many players so many rounds are usual; above, one more than the last
+# up to this many players this many rounds are usual; above, one more than the last
 USUAL_ROUNDS = ((8, 3), (16, 4), (32, 5), (64, 6), (128, 7), (226, 8))
 CUTS = (8, 4, 2, 0)
 
@@ -38,7 +38,7 @@ class Plan:
         return next(cut for cut in CUTS if cut <= min(self.cut, players))
 
     def doubts(self, players: int) -> list[str]:
-        """What may go wrong with so many players: nobody meets twice, and some go home."""
+        """What may go wrong with this many players: nobody meets twice, and some go home."""
         told = []
         half = (players + 1) // 2
         if self.rounds > half:

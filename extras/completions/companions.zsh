@@ -19,7 +19,7 @@ given=(
     '(--both)--one[a score is stored once a phone says it]'
     '--from-one[connections of one address]:count:'
     '--desk[the port of the page of the scorekeeper]:port:'
-    '--clock[start a clock of so many minutes]:minutes:'
+    '--clock[start a clock of this many minutes]:minutes:'
     '--title[the heading]:text:'
 )
 [[ $service == event-sheets ]] && given+=(

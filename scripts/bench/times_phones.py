@@ -1,4 +1,4 @@
-"""Times phones beside an event of so many players in its third round: scores one after the other, all at once, and spread over a minute, each with the pages
+"""Times phones beside an event of this many players in its third round: scores one after the other, all at once, and spread over a minute, each with the pages
 that a phone loads before and after; then a score beside 900 connections that send nothing, and beside one phone that asks for the board without a pause;
 the board, the lists and players' own pages for all at once; and what comes through caddy and nginx, where they are installed. It says what is stored at the
 end, and how much memory it took.
@@ -129,7 +129,7 @@ def fetched(gateway, target, source):
 
 
 def opened_at_once(name, file, pages):
-    """Each of so many phones opens these pages, all at once."""
+    """Each of this many phones opens these pages, all at once."""
     with Gateway(program, file) as gateway:
         aims = list(targets(program, file))
         own = links(program, file)

@@ -1,4 +1,4 @@
-"""Random events for what stands around the program: of so many players, some with names of many kinds, and as far on as is wanted. Players drop and come
+"""Random events for what stands around the program: of this many players, some with names of many kinds, and as far on as is wanted. Players drop and come
 late, and odd numbers have byes. Each is also laid into a file.
 """
 import sqlite3

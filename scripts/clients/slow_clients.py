@@ -72,7 +72,7 @@ def within(what, taken, least, most):
 
 
 def drip(client, sent, size, pause, is_over):
-    """Sends so many bytes, and again after each pause, until all are sent or it is over."""
+    """Sends this many bytes, and again after each pause, until all are sent or it is over."""
     for at in range(0, len(sent), size):
         sent_whole(client, sent[at : at + size])
         if is_over():
@@ -275,7 +275,7 @@ class Tabs:
         self.pages.server_close()
 
     def wait_for(self, count):
-        """Waits until so many pages were asked for."""
+        """Waits until this many pages were asked for."""
         until = time.monotonic() + WHOLE
         while self.loaded < count and time.monotonic() < until:
             time.sleep(0.1)

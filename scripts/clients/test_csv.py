@@ -129,7 +129,7 @@ LISTS = {
 def test_list(program, file, takes, data, want):
     assert takes(data) == want
     enrolled = int(want[1].split()[1]) if want[1] else 0
-    assert program.did("players", file).count(b"\n") == 1 + enrolled, "so many are there"
+    assert program.did("players", file).count(b"\n") == 1 + enrolled, "that many are there"
 
 
 def test_a_513th_player(takes):

@@ -170,7 +170,7 @@ def test_two_clients(program, room, made):
 
 
 def headed(size, fields=0):
-    """A GET of the standings with a head of so many bytes, or with so many fields."""
+    """A GET of the standings with a head of this many bytes, or with this many fields."""
     start = b"GET /standings HTTP/1.1\r\n" + b"X: a\r\n" * fields
     return start + (b"Y: " + b"a" * (size - len(start) - 7) + b"\r\n" if size else b"") + b"\r\n"
 

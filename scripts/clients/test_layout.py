@@ -471,7 +471,7 @@ UNTIL = 1764360000
 
 @pytest.fixture
 def watched(sheets, program, room, dice, browser):
-    """What the board of a round shows so many seconds before the end of its 50 minutes: the clock, and the part."""
+    """What the board of a round shows this many seconds before the end of its 50 minutes: the clock, and the part."""
     event = evening(dice, 9, STARTED, 3, 0)
     event.pair(1, bytes(32))
     for table in range(1, 5):

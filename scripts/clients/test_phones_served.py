@@ -270,7 +270,7 @@ def test_silent(program, room):
                         it.send(b"G")
                 seconds.append(seconds_for(*aim, "beside the silent"))
             ports = listening_clients(gateway.port)
-            assert sum(it.getsockname()[1] in ports for it in held) <= 24, "so many of one address stay"
+            assert sum(it.getsockname()[1] in ports for it in held) <= 24, "this many of one address stay"
             for it in held:
                 it.close()
             return statistics.median(seconds) - before < 0.5

@@ -184,7 +184,7 @@ FRIDAY = b"init\tFriday\t3\t0\nenrol\tAna\nenrol\tBo\nenrol\tCy\nenrol\tDi\nplay
 
 
 def in_room(program, room):
-    """Runs a script into a file that takes so many bytes, and then none."""
+    """Runs a script into a file that takes this many bytes, and then none."""
 
     def narrow():
         signal.signal(signal.SIGXFSZ, signal.SIG_IGN)

@@ -38,7 +38,7 @@ class Tour:
         self.how = {"shell": True, "cwd": room, "env": env, "stdout": subprocess.PIPE, "stderr": subprocess.STDOUT, "stdin": subprocess.DEVNULL}
 
     def printed(self, typed, lines):
-        """What the line prints; of one that goes on behind the others, so many lines."""
+        """What the line prints; of one that goes on behind the others, this many lines."""
         if typed == "wait":
             return self.behind.communicate(timeout=PATIENCE)[0]
         if typed.endswith(" &"):

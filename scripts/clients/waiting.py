@@ -1,7 +1,7 @@
 """Waiting for what another process does."""
 import time
 
-# nothing takes so many seconds, however much else runs: what is waited for longer hangs
+# nothing takes this many seconds, however much else runs: what is waited for longer hangs
 PATIENCE = 240
 
 

@@ -97,7 +97,7 @@ class TooLong(Exception):
 
 
 def random_states(dice, number, longest):
-    """The lines of a random event that are taken, each with the event then. Of enrolments, which are the first, and of others there are so many at most."""
+    """The lines of a random event that are taken, each with the event then. Of enrolments, which are the first, and of others there are this many at most."""
     states = []
 
     def note(line, answer, event):
@@ -111,7 +111,7 @@ def random_states(dice, number, longest):
 
 
 def chosen(dice, count, longest):
-    """So many random events of at most so many command lines; every third has a playoff."""
+    """This many random events of at most this many command lines; every third has a playoff."""
     found = []
     for number in itertools.count():
         try:

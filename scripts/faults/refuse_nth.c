@@ -1,4 +1,4 @@
-/* Loaded before a program, it refuses the Nth growth of memory that the program asks for (REFUSE_NTH), and no other.
+/* Loaded before a program, it refuses the Nth allocation that the program asks for (REFUSE_NTH), and no other.
    With REFUSE_NTH=0 it refuses none, and says at the end on standard error how many there were before each write to standard output, and in all. */
 #define _GNU_SOURCE
 #include <dlfcn.h>

@@ -1,7 +1,7 @@
-"""Refuses each growth of memory of a few lines of a script, and counts those after which the script goes on: the line is answered `refused 24 Memory`, and
-what follows as if it had not been sent. Memory that is wanted beside the store leaves the desk as it was. So there are more of them in a line that is
+"""Refuses each allocation of a few lines of a script, and counts those after which the script goes on: the line is answered `refused 24 Memory`, and
+what follows as if it had not been sent. If memory runs out outside the store, the desk stays as it was. So there are more of them in a line that is
 taken, for which the event is copied before the first write, than in the same line sent again, which the rules refuse; and more in `standings`, which
-makes rows, than in `players`, which makes a text alone. If a desk stopped for want of memory beside the store, there would not be more.
+makes rows, than in `players`, which makes only a text. If a desk stopped when memory ran out outside the store, there would not be more.
 """
 import sys
 
@@ -18,7 +18,7 @@ HEADINGS, DOUBLED = {b"players": 12, b"standings": 42}, 16
 
 
 def goes_on(script, at):
-    """How many growths of a command have it answered 24, and what follows as if it had not been sent."""
+    """How many allocations of a command have it answered 24, and what follows as if it had not been sent."""
     due = b"".join(script.answers[:at]) + MEMORY + script.without[at]
     return sum(script.run(script.commands, nth)[1] == due for nth in range(script.until[at - 1] + 1, script.until[at] + 1))
 
@@ -38,4 +38,4 @@ longer = {it: len(script.answers[LINES.index(it)]) > DOUBLED * heading for it, h
 check("which text doubles more often", longer, {b"players": True, b"standings": False})
 rows, text = goes_on(script, LINES.index(b"standings")), goes_on(script, LINES.index(b"players"))
 check_more("standings", rows, text)
-end(f"growths after which a script goes on: {', '.join(told)}, {rows} of standings and {text} of players")
+end(f"allocations after which a script goes on: {', '.join(told)}, {rows} of standings and {text} of players")

@@ -1,4 +1,4 @@
-"""Refuses each growth of memory of worked examples 1, 8, 9, 14, 17, 20, 21 and 48, one at a time: as scripts, as command lines over files, and as requests
+"""Refuses each allocation of worked examples 1, 8, 9, 14, 17, 20, 21 and 48, one at a time: as scripts, as command lines over files, and as requests
 while the program serves, its opening among them; and of the migrations of worked example 47. What is asked of each is what refused_memory.py,
 refused_file_memory.py and refused_http_memory.py ask. What is due where nothing is refused is what the worked examples show, by a plain reading of
 the rules.
@@ -113,12 +113,12 @@ def answer_of(event, line):
 class Examples:
     def __init__(self, program, library, each):
         self.program, self.library, self.each = program, library, each
-        self.growths, self.wrong, self.seen = {"script": 0, "file": 0, "HTTP": 0}, [], set()
+        self.allocations, self.wrong, self.seen = {"script": 0, "file": 0, "HTTP": 0}, [], set()
 
-    def note(self, kind, what, growths, wrong):
-        self.growths[kind] += growths
+    def note(self, kind, what, allocations, wrong):
+        self.allocations[kind] += allocations
         self.wrong.extend(wrong)
-        print(f"{kind}, {what!r}: {growths} growths, {len(wrong)} wrong", file=sys.stderr, flush=True)
+        print(f"{kind}, {what!r}: {allocations} allocations, {len(wrong)} wrong", file=sys.stderr, flush=True)
 
     def is_new(self, *what):
         is_new = what not in self.seen
@@ -190,7 +190,7 @@ class Examples:
                     self.note("HTTP", sent, it.last + 1 - it.first, wrong)
 
     def run_opening(self, rounds, cut, lines):
-        """Each growth before `serve` listens: it is refused 24, or listens and answers as ever."""
+        """Each allocation before `serve` listens: it is refused 24, or listens and answers as ever."""
         with tempfile.TemporaryDirectory() as room:
             file, event = self.template(room, rounds, cut, lines)
             slip, rows = served_plainly(event, SLIP)[0], rows_of_friday(event)
@@ -211,7 +211,7 @@ class Examples:
                 ran = subprocess.run(words, stdin=subprocess.DEVNULL, capture_output=True, env=refusing(self.library, nth), timeout=60)
                 answers, end = [], (ran.returncode, ran.stdout, ran.stderr)
                 is_lawful = end == MEMORY
-            return None if is_lawful and rows_of_copy(file) == rows else f"serve, growth {nth}: {answers}, {end}"
+            return None if is_lawful and rows_of_copy(file) == rows else f"serve, allocation {nth}: {answers}, {end}"
 
 
 def main(program, library, jobs):
@@ -227,8 +227,8 @@ def main(program, library, jobs):
             it.run_lines(*example)
         it.run_migrations(*MIGRATED)
     print("\n".join(it.wrong), file=sys.stderr, end="\n" if it.wrong else "")
-    count = sum(it.growths.values())
-    print(f"refused memory in worked examples: {count} growths, each refused once: " + ", ".join(f"{number} by {kind}" for kind, number in it.growths.items()))
+    count = sum(it.allocations.values())
+    print(f"refused memory in worked examples: {count} allocations, each refused once: " + ", ".join(f"{number} by {kind}" for kind, number in it.allocations.items()))
     print(f"{count - len(it.wrong)} passed, {len(it.wrong)} failed")
     return 1 if it.wrong else 0
 

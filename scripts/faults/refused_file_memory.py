@@ -1,9 +1,9 @@
-"""Runs command lines over a file, and a migration of one of version 1, with one growth of memory refused, each in turn. The answer is as ever, or
+"""Runs command lines over a file, and a migration of one of version 1, with one allocation refused, each in turn. The answer is as ever, or
 `refused 24 Memory` with status 4. The file then holds the event as it was, or as the command leaves it, and so where it was answered as ever. An import
 for which memory ran out has enrolled as many names as it says, or one more. What the file holds then the program shows, once nothing is refused, and
 behind that the file alone holds it, without its log.
 
-An opening alone grows some 4,300 times, so that of a command line's growths each STRIDE-th is refused, and then each of the last 150.
+An opening by itself allocates some 4,300 times, so that of a command line's allocations each STRIDE-th is refused, and then each of the last 150.
 """
 import concurrent.futures
 import os
@@ -12,13 +12,13 @@ import sys
 import tempfile
 
 from scripts.clients.event_files import copied, due, event_of_four, make_old, rows_alone, rows_of, rows_of_copy
-from scripts.faults.refusing import chosen_growths, no_cause_no_fault, refusing
+from scripts.faults.refusing import chosen_allocations, no_cause_no_fault, refusing
 from scripts.models.plain_log import without_salts
 
 LAST = 150
 
 ZERO = "0" * 64
-# a command line, and whether its growths are refused
+# a command line, and whether its allocations are refused
 COMMANDS = [
     (["init", "Friday", "2", "4"], True),
     *((["enrol", f"P{it}"], it == 6) for it in range(1, 7)),
@@ -74,7 +74,7 @@ class Line:
         return copied(self.file, room)
 
     def run(self, file, words, nth=None):
-        """What a command line is answered, with this growth refused."""
+        """What a command line is answered, with this allocation refused."""
         env = dict(os.environ) if nth is None else refusing(self.library, nth)
         ran = subprocess.run([self.program, words[0], file, *words[1:]], stdin=subprocess.DEVNULL, capture_output=True, env=env, cwd=os.path.dirname(file), timeout=60)
         return ran.returncode, ran.stdout, ran.stderr
@@ -103,24 +103,24 @@ class Line:
         return [((4, out, b"refused 24 Memory\n"), (held, later)) for (out, held), (_, later) in zip(steps, steps[1:])]
 
     def fault(self, nth):
-        """What is wrong where this growth is refused, or None."""
+        """What is wrong where this allocation is refused, or None."""
         with tempfile.TemporaryDirectory() as room:
             at = self.copy(room)
             got, held = self.run(at, self.words, nth), self.seen_of(at)
             is_half = any(got == answer and held in lawful for answer, lawful in self.halves)
             if got == self.due and held == self.after or got == MEMORY and held in (self.before, self.after) or is_half:
                 return None
-            return f"{self.words}, growth {nth} of {self.count}: {got}, {held}"
+            return f"{self.words}, allocation {nth} of {self.count}: {got}, {held}"
 
-    def faults(self, each, growths):
-        """What is wrong where these growths are refused, which `each` goes through, as `map` does."""
+    def faults(self, each, allocations):
+        """What is wrong where these allocations are refused, which `each` goes through, as `map` does."""
         calm = [out for _, *shown in (self.before, self.after, [None, self.due]) for answer in shown for out in answer[1:]]
         wrong = [] if no_cause_no_fault(calm) else [f"{self.words}: a fault without a cause"]
-        return wrong + [it for it in each(self.fault, growths) if it]
+        return wrong + [it for it in each(self.fault, allocations) if it]
 
 
 def lines_of(program, library, room):
-    """The command lines whose growths are refused, each over the file as those before it have left it; and a migration."""
+    """The command lines whose allocations are refused, each over the file as those before it have left it; and a migration."""
     file, old = f"{room}/e.event", f"{room}/old.event"
     for words, is_tried in COMMANDS:
         it = Line(program, library, file, words, NAMES)
@@ -136,15 +136,15 @@ def lines_of(program, library, room):
 
 
 def main(program, library, stride):
-    growths, wrong = 0, []
+    allocations, wrong = 0, []
     # a command line waits for the disk most of the time
     with tempfile.TemporaryDirectory() as room, concurrent.futures.ThreadPoolExecutor(len(os.sched_getaffinity(0))) as pool:
         for it in lines_of(program, library, room):
-            chosen = chosen_growths(1, it.count, stride, LAST)
-            growths, wrong = growths + len(chosen), wrong + it.faults(pool.map, chosen)
+            chosen = chosen_allocations(1, it.count, stride, LAST)
+            allocations, wrong = allocations + len(chosen), wrong + it.faults(pool.map, chosen)
     print("\n".join(wrong), file=sys.stderr, end="\n" if wrong else "")
-    print(f"refused memory in a file: {growths} growths, each refused once")
-    print(f"{growths - len(wrong)} passed, {len(wrong)} failed")
+    print(f"refused memory in a file: {allocations} allocations, each refused once")
+    print(f"{allocations - len(wrong)} passed, {len(wrong)} failed")
     return 1 if wrong else 0
 
 

@@ -1,8 +1,8 @@
-"""Serves an event with one growth of memory refused, of those that one request takes, each in turn. The request is answered as ever, or 503 with
+"""Serves an event with one allocation refused, of those that one request takes, each in turn. The request is answered as ever, or 503 with
 refusal 24. After such an answer nothing has changed, or the store was at fault: then the next request is answered 26, and the file holds the
 event before the score or after it. The next request is never the one that lacks memory.
 
-A score that is handed in grows some hundreds of times, so that of a request's growths each STRIDE-th is refused, and then each of the last 60.
+A score that is handed in allocates some hundreds of times, so that of a request's allocations each STRIDE-th is refused, and then each of the last 60.
 """
 import concurrent.futures
 import copy
@@ -12,7 +12,7 @@ import tempfile
 
 from scripts.clients.event_files import copied, event_of_four, make_four, rows_of, rows_of_copy
 from scripts.clients.serving import Serving, served
-from scripts.faults.refusing import chosen_growths, no_cause_no_fault, refusing
+from scripts.faults.refusing import chosen_allocations, no_cause_no_fault, refusing
 from scripts.models.plain_http import refusal, served as served_plainly
 
 LAST = 60
@@ -42,51 +42,51 @@ class Request:
         slip_after, _ = served_plainly(after, SLIP)
         self.before, self.after = rows(event), rows(after)
         self.as_ever = [self.due, slip_after], self.after
-        self.wanting = [([MEMORY, slip_before], self.before), ([MEMORY, NEEDS_REOPEN], self.before), ([MEMORY, NEEDS_REOPEN], self.after)]
-        self.first, self.last = self.growths(NO_REQUEST) + 1, self.growths(sent)
+        self.lacking = [([MEMORY, slip_before], self.before), ([MEMORY, NEEDS_REOPEN], self.before), ([MEMORY, NEEDS_REOPEN], self.after)]
+        self.first, self.last = self.allocations(NO_REQUEST) + 1, self.allocations(sent)
 
     def served_with(self, nth, *requests):
-        """The answers, how it ended, and the rows of the file then, with this growth refused."""
+        """The answers, how it ended, and the rows of the file then, with this allocation refused."""
         with tempfile.TemporaryDirectory() as room:
             file = copied(self.template, room)
             with Serving(self.program, file, len(requests), env=refusing(self.library, nth)) as serving:
                 answers = [serving.ask(sent) for sent in requests]
                 return answers, serving.end(), rows_of_copy(file)
 
-    def growths(self, sent):
-        """How many growths there are up to the end of this request."""
+    def allocations(self, sent):
+        """How many allocations there are up to the end of this request."""
         _, (_, _, err), _ = self.served_with(0, sent)
         return int(err.split()[-1])
 
     def tried(self, nth):
-        """Whether the request lacked memory where this growth is refused, and what was wrong, if something was."""
+        """Whether the request lacked memory where this allocation is refused, and what was wrong, if something was."""
         answers, end, rows = self.served_with(nth, self.sent, SLIP)
-        if ((answers, rows) == self.as_ever or (answers, rows) in self.wanting) and end == served(2):
+        if ((answers, rows) == self.as_ever or (answers, rows) in self.lacking) and end == served(2):
             return answers[0] == MEMORY, None
-        return answers[0] == MEMORY, f"{self.sent}, growth {nth} of {self.first} to {self.last}: {answers}, {end}, {rows}"
+        return answers[0] == MEMORY, f"{self.sent}, allocation {nth} of {self.first} to {self.last}: {answers}, {end}, {rows}"
 
-    def faults(self, each, growths):
-        """How many answers said that memory was wanting, and what was wrong."""
+    def faults(self, each, allocations):
+        """How many answers reported out of memory, and what failed."""
         answers, end, rows = self.served_with(0, self.sent, SLIP)
         is_calm = (answers, rows) == self.as_ever and end[:2] == served(2)[:2] and no_cause_no_fault(answers)
-        tried = list(each(self.tried, growths))
+        tried = list(each(self.tried, allocations))
         wrong = [fault for _, fault in tried if fault]
-        return sum(is_wanting for is_wanting, _ in tried), wrong if is_calm else [f"{self.sent}: {answers}, {end}, {rows}, without a cause", *wrong]
+        return sum(is_lacking for is_lacking, _ in tried), wrong if is_calm else [f"{self.sent}: {answers}, {end}, {rows}, without a cause", *wrong]
 
 
 def main(program, library, stride):
-    count, wanting, wrong = 0, 0, []
+    count, lacking, wrong = 0, 0, []
     # a program that serves waits for the disk most of the time
     with tempfile.TemporaryDirectory() as room, concurrent.futures.ThreadPoolExecutor(len(os.sched_getaffinity(0))) as pool:
         template = f"{room}/e.event"
         make_four(program, template)
         for sent in REQUESTS:
             it = Request(program, library, template, event_of_four(), sent)
-            chosen = chosen_growths(it.first, it.last, stride, LAST)
+            chosen = chosen_allocations(it.first, it.last, stride, LAST)
             told, faults = it.faults(pool.map, chosen)
-            count, wanting, wrong = count + len(chosen), wanting + told, wrong + faults
+            count, lacking, wrong = count + len(chosen), lacking + told, wrong + faults
     print("\n".join(wrong), file=sys.stderr, end="\n" if wrong else "")
-    print(f"refused memory while it serves: {count} growths, each refused once, and {wanting} answers that say so")
+    print(f"refused memory while it serves: {count} allocations, each refused once, and {lacking} answers that say so")
     print(f"{count - len(wrong)} passed, {len(wrong)} failed")
     return 1 if wrong else 0
 

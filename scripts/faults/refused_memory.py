@@ -1,6 +1,6 @@
-"""Runs a program once for each growth of memory that it asks for, with that growth refused.
+"""Runs a program once for each allocation that it asks for, with that allocation refused.
 
-The command in which the growth falls is answered as ever, or `refused 24 Memory`. What follows must then be what the program answers to
+The command in which the allocation falls is answered as ever, or `refused 24 Memory`. What follows must then be what the program answers to
 the script without that command, so that a refusal leaves the event as it was; or, where it was the store that lacked memory, each
 further command is refused until the event is opened again. No other command is answered that memory or the store was at fault.
 """
@@ -14,7 +14,7 @@ NEEDS_REOPEN = b"refused 26 NeedsReopen\n"
 
 
 class Script:
-    """The commands of a script, what each is answered, and the growths that are made until then."""
+    """The commands of a script, what each is answered, and the allocations that are made until then."""
 
     def __init__(self, program, library, commands):
         self.program, self.library, self.commands = program, library, commands
@@ -27,16 +27,16 @@ class Script:
         self.without = [self.run(commands[:at] + commands[at + 1 :])[1][end:] for at, end in enumerate(ends[:-1])]
 
     def run(self, commands, nth=0):
-        """The status, the output and the errors, with this growth refused, or none; then the errors say how many there were."""
+        """The status, the output and the errors, with this allocation refused, or none; then the errors say how many there were."""
         ran = subprocess.run([self.program], input=b"".join(commands), capture_output=True, env=refusing(self.library, nth), timeout=60)
         return ran.returncode, ran.stdout, ran.stderr
 
     def command_of(self, nth):
-        """The command in which a growth falls, from 0; what is grown before the first is counted to that."""
+        """The command in which an allocation falls, from 0; what is allocated before the first is counted to that."""
         return sum(nth > count for count in self.until)
 
     def lawful(self, nth):
-        """The statuses and outputs that are lawful where this growth is refused."""
+        """The statuses and outputs that are lawful where this allocation is refused."""
         at, answers = self.command_of(nth), self.answers
         if at == len(answers):
             return [(0, self.output)]
@@ -45,13 +45,13 @@ class Script:
         return [(0, self.output), (0, before + MEMORY + self.without[at]), (0, before + MEMORY + NEEDS_REOPEN * left), *unread]
 
     def fault(self, nth):
-        """What is wrong with the run in which this growth is refused, or None."""
+        """What is wrong with the run in which this allocation is refused, or None."""
         status, output, errors = self.run(self.commands, nth)
         # with no words to tell a script from a command line, that is an error
         is_wordless = self.command_of(nth) == 0 and (status, output, errors) == (4, b"", MEMORY)
         if is_wordless or (status, output) in self.lawful(nth):
             return None
-        return f"growth {nth} of {self.count}, in command {self.command_of(nth) + 1}: status {status}, {output}"
+        return f"allocation {nth} of {self.count}, in command {self.command_of(nth) + 1}: status {status}, {output}"
 
     def faults(self, each):
         """What is wrong in all runs, which `each` goes through, as `map` does."""
@@ -67,7 +67,7 @@ def main(program, library, script, whole):
         sys.exit(f"{script} is not answered as {whole} has it")
     count, wrong = it.count, it.faults(map)
     print("\n".join(wrong), file=sys.stderr, end="\n" if wrong else "")
-    print(f"refused memory in {script}: {count} growths, each refused once")
+    print(f"refused memory in {script}: {count} allocations, each refused once")
     print(f"{count - len(wrong)} passed, {len(wrong)} failed")
     sys.exit(1 if wrong else 0)
 

@@ -76,7 +76,7 @@ class Meddling:
             return None
 
     def ended(self, count, number):
-        """What was wrong where a signal ends it behind so many requests."""
+        """What was wrong where a signal ends it behind this many requests."""
         with tempfile.TemporaryDirectory() as room:
             file, event = copied(self.file, room), self.events[count]
             with Serving(self.program, file, len(REQUESTS), preexec_fn=hear_interrupts) as serving:

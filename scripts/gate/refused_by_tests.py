@@ -2,7 +2,7 @@
 fails. With no wrong body the same tests pass in the gate. There a wrong body can't be built in, since only what is proved is built.
 
 Those of wrong-bodies are refused by the proof too, and here by the tests on stopped disks. Those of refused-by-tests meet every contract: a call may
-always answer that memory is wanting, and a writer may always break, so that tests alone refuse them.
+always answer out of memory, and a writer may always break, so that only tests refuse them.
 """
 import argparse
 import concurrent.futures
@@ -39,7 +39,7 @@ BODIES = {
     "er_cli/refused-by-tests/hangs_up": (CLI_TESTS, [SERVED]),
     "er_cli/refused-by-tests/print_is_held_back": (CLI_TESTS, [SERVED, ANSWERED, SCRIPT]),
 }
-# with this one the test does not end, so that the limit of so many seconds is its refusal, as it is of no other
+# with this one the test does not end, so that the limit of this many seconds is its refusal, as it is of no other
 ENDLESS, ENDLESS_SECONDS = "er_cli/refused-by-tests/waits_for_ever", 60
 SECONDS = 7200
 

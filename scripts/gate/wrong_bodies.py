@@ -50,9 +50,9 @@ rt = toolchain.load()
 printing = threading.Lock()
 # the free memory, in bytes, below which no check is begun beside others
 ROOM = 8_000_000_000
-# one of each public function is tried in so many turns
+# one of each public function is tried in this many turns
 PUBLIC_TURNS = 2
-# those of private functions and of constants are tried in so many turns
+# those of private functions and of constants are tried in this many turns
 TURNS = 5
 # What was not begun before the time was over.
 NOT_TRIED = "not tried"
@@ -737,7 +737,7 @@ def try_beside(gate, work, shows, earlier, verdicts):
 
 
 def try_now(work, shows, jobs, verdicts, work_in):
-    """Tries all, so many crates at once, over the libraries below as the session builds them."""
+    """Tries all, this many crates at once, over the libraries below as the session builds them."""
     if any(it.build_rlib(["--jobs", "1"], anew=False) for crate, bodies in work if bodies for it in crate.below()):
         sys.exit("a library below could not be built")
     with concurrent.futures.ThreadPoolExecutor(jobs) as pool:
@@ -749,11 +749,11 @@ def main():
     words.add_argument("names", nargs="*", metavar="NAME")
     words.add_argument("--beside-gate", metavar="LOG", help="begin with each crate once rt ci, whose output goes to LOG, has proved it")
     words.add_argument("--turn", metavar="NUMBER", type=int, help="try what is tried each time, and of the others those whose turn this is")
-    words.add_argument("--minutes", metavar="NUMBER", type=int, help="begin no check after so many but of those tried each time; what is left is named, and is no fault")
+    words.add_argument("--minutes", metavar="NUMBER", type=int, help="begin no check after this many but of those tried each time; what is left is named, and is no fault")
     words.add_argument("--only", metavar="EDIT", action="append", help="try this one, and no other that is not named so too")
     words.add_argument("--show", action="store_true", help="print what each check said")
     words.add_argument("--strict", action="store_true", help="fail if one is unclear and was not judged by hand")
-    words.add_argument("--jobs", metavar="NUMBER", type=int, default=rt.processors(), help="try those of so many crates at once; without it, as many as there are processors")
+    words.add_argument("--jobs", metavar="NUMBER", type=int, default=rt.processors(), help="try those of this many crates at once; without it, as many as there are processors")
     words.add_argument("--verdicts", metavar="FILE", help="add a line of JSON for each that was tried to FILE, and leave out those of which it has one")
     words.add_argument("--work-in", metavar="FOLDER", help="keep what checks have proved there, and use it, so that a run that is stopped goes on quickly")
     given = words.parse_args()

@@ -105,7 +105,7 @@ def enrol_list(path, name):
 
 
 def answer_clients(path, port, count):
-    """Answers so many connections."""
+    """Answers this many connections."""
     file = File(path)
     with socket.create_server(("127.0.0.1", port)) as listener:
         print(f"listening {listener.getsockname()[1]}", flush=True)

@@ -124,7 +124,7 @@ def this_and_that(sends, dice, version):
 
 
 def to_the_champion(sends, dice, version, players, rounds):
-    """An event of so many players and rounds that is played from its first round to its end."""
+    """An event of this many players and rounds that is played from its first round to its end."""
     play = Play(sends, dice, players, rounds, dice.choice((0, 2, 4, 8, 8)), version)
     event = play.event
     for number in range(1, event.rounds + 1):
@@ -163,7 +163,7 @@ def to_the_champion(sends, dice, version, players, rounds):
 
 
 def random_event(sends, dice, number, most=64, version=2):
-    """Every second event is a whole one, of at most so many players, or twice as many where it is a long one. The event at its end is given."""
+    """Every second event is a whole one, of at most this many players, or twice as many where it is a long one. The event at its end is given."""
     if number % 2 == 0:
         return this_and_that(sends, dice, version).event
     if number % 10 == 7 and most >= FEWEST_LONG:

@@ -63,7 +63,7 @@ def spaced(dice, parts):
 
 
 def deep(dice):
-    """A value of so many levels, about as many as may be."""
+    """A value of this many levels, about as many as may be."""
     levels = dice.choice((1, 2, 100, 125, 126, 127, 128, 129, 1000))
     return dice.choice((b"[" * levels + b"]" * levels, b'{"a":' * levels + b"1" + b"}" * levels))
 

@@ -112,7 +112,7 @@ class Checkout:
         return ran.returncode
 
     def date(self, name, seconds):
-        """Gives a source a time so many seconds after the program's."""
+        """Gives a source a time this many seconds after the program's."""
         at = os.stat(f"{self.top}/{PROGRAM}").st_mtime + seconds
         os.utime(f"{self.top}/crates/{name}", (at, at))
 

@@ -1,4 +1,4 @@
-"""The socket at which phones are let in: so many connections of one address."""
+"""The socket at which phones are let in: this many connections of one address."""
 from __future__ import annotations
 
 import collections

@@ -11,7 +11,7 @@ from typing import Hashable, Iterator
 MOST_KEYS = 4096
 
 
-# of IPv6 a guest may take any address of a network, in which others are too: what so many may have
+# of IPv6 a guest may take any address of a network, in which others are too: what as many may have
 ADDRESSES_OF_A_NETWORK = 16
 
 
@@ -31,7 +31,7 @@ def network_of(origin: str) -> str:
 
 
 class TokenBuckets:
-    """For each key so many at once, and then one in so many seconds. It goes by a clock that nobody sets."""
+    """For each key this many at once, and then one in this many seconds. It goes by a clock that nobody sets."""
 
     def __init__(self, most: float, seconds: float):
         self.most, self.seconds = most, seconds
@@ -72,7 +72,7 @@ class Crowded(Exception):
 
 
 class DelayQueues:
-    """For each key a queue whose members are let through one after the other, so many seconds apart; a few
+    """For each key a queue whose members are let through one after the other, this many seconds apart; a few
     wait, and more are turned away, also where too many wait of all keys.
     """
 

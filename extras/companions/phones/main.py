@@ -80,7 +80,7 @@ def parser() -> argparse.ArgumentParser:
         metavar="PORT",
         help="the port of the scorekeeper's page (8081)",
     )
-    clock = "start a clock of so many minutes, and end"
+    clock = "start a clock of this many minutes, and end"
     add("--clock", type=minutes_word, metavar="MINUTES", help=clock)
     title = "the heading; without it FILE.title, which the prompt writes, or else the name in FILE"
     add("--title", metavar="TEXT", help=title)

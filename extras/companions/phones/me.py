@@ -9,7 +9,7 @@ from companions.lists import Match, Player, Standing
 from companions.phones.cache import Snapshot
 from companions.working import Totals, seen_by, totals_of
 
-# so many lines of the standings above and below the player's own
+# this many lines of the standings above and below the player's own
 LINES_AROUND = 2
 
 

@@ -38,7 +38,7 @@ LEAST_ROOM = 1_000_000
 # what goes wrong with storing, among the troubles
 SCORES = "scores"
 MOST_WAITING = 256
-# where so many wait, they are handed on together
+# where this many wait, they are handed on together
 LEAST_AT_ONCE, MOST_AT_ONCE = 3, 32
 # what serves ends with this process: the shell looks whether it ended before that was asked for
 ENDS_WITH_US = (

@@ -28,7 +28,7 @@ from companions.troubles import ENDED, Troubles
 
 THREADS, THREADS_OF_THE_DESK = MOST_WAITING + 32, 4
 MOST_CONNECTIONS, MOST_CONNECTIONS_OF_ONE = 700, 24
-# so many are kept for those who come: silent ones make room
+# this many are kept for those who come: silent ones make room
 CONNECTIONS_KEPT_FREE = 20
 # a connection ends that sends nothing for so long, and one that sends no whole request in so long
 SECONDS_OF_SILENCE, SECONDS_OF_A_CONNECTION, SECONDS_BETWEEN_SWEEPS = 10, 40, 2

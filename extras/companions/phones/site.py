@@ -62,7 +62,7 @@ from companions.working import part_shown, share_shown, working_of
 MOST_FOUND = 20
 # a page on which nothing is entered loads itself again
 SECONDS_TO_RELOAD = 20
-# so many at once, and then one in so many seconds: requests of an address without the right code, the board
+# this many at once, and then one in this many seconds: requests of an address without the right code, the board
 # among them, which is long; wrong codes of an address; what is asked at a table with its code; and scores
 # handed in there
 REQUESTS_OF_ONE = 120, 0.1
@@ -72,8 +72,8 @@ REQUESTS_OF_A_TABLE = 60, 1.0
 SCORES_OF_A_TABLE = 8, 10.0
 # names that an address enters
 NAMES_OF_ONE = 5, 60.0
-# more wrong codes of an address are answered one after the other, so far apart; so many wait, and of all
-# addresses so many, since each that waits takes a thread
+# more wrong codes of an address are answered one after the other, so far apart; this many wait, and of all
+# addresses this many, since each that waits takes a thread
 SECONDS_BETWEEN_CODES, MOST_WITH_CODES, MOST_WITH_CODES_IN_ALL = 0.1, 8, 32
 
 

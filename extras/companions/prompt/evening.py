@@ -108,7 +108,7 @@ class Evening:
             session.say("Each round gets a key that the prompt makes. For draw on it is too late now.")
 
     def must_work_out(self) -> None:
-        """Says what is usual for so many players, and asks if rounds or cut may not work out."""
+        """Says what is usual for this many players, and asks if rounds or cut may not work out."""
         session = self.session
         players = len(session.event.enrolled)
         plan = plan_of(session.file, session.source.turn)

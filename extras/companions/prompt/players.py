@@ -20,7 +20,7 @@ from companions.stages import slot_shown
 from companions.wording import counted
 from companions.working import Working, part_shown, share_shown, working_of
 
-# so many names of which a list didn't tell the last one are shown
+# this many names of which a list didn't tell the last one are shown
 MOST_GUESSES = 8
 # how like two words of a name are, if one may be a misspelt other
 LIKENESS = 0.7

@@ -82,7 +82,7 @@ class Session:
         self.shown, self.shown_at, self.shown_before = Progress(), -math.inf, Progress()
         self.known = Progress()
         self.has_moved = False
-        # where no further round was found, for so many players
+        # where no further round was found, for this many players
         self.stuck: Optional[tuple[Progress, int]] = None
         # the round in which it was said that no second copy can be made
         self.round_without_copy: Optional[int] = None

@@ -12,7 +12,7 @@ from companions.reports import words_to_store
 from companions.stages import slot_typed
 from companions.wording import counted
 
-# a line to type takes so many columns, before whose it is
+# a line to type takes this many columns, before whose it is
 WIDTH_OF_A_LINE = 12
 
 

@@ -40,7 +40,7 @@ TEMPLATES = templates_in(FOLDER)
 TEMPLATES.globals.update(
     letters_of_slip=letters_of_slip, layout_of=layout_of, in_columns=in_columns, is_close=is_close
 )
-# so many tables that still play are named beneath a board
+# this many tables that still play are named beneath a board
 MOST_STILL = 30
 # a board loads itself again so often
 SECONDS_TO_RELOAD = 20

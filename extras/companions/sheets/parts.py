@@ -27,7 +27,7 @@ SLIPS_A_SHEET = 5
 SLIP_LETTERS, SLIP_ROOM, SLIP_LINES = 11.5, 66, 2
 # the same beside a code, which takes a part of the slip
 ROOM_BESIDE_A_CODE = 46
-# so many rows fit a page of paper, and so many if they stand close
+# this many rows fit a page of paper, and this many if they stand close
 LOOSE_ROWS, CLOSE_ROWS = 28, 45
 
 

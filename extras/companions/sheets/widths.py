@@ -27,6 +27,6 @@ def width_of(name: str) -> float:
 
 
 def size_for(name: str, size: float, room: float, lines: int) -> float:
-    """The size in points at which the name takes so many lines at most, in a room of so many millimetres."""
+    """The size in points at which the name takes this many lines at most, in a room of this many millimetres."""
     width = width_of(name) * MILLIMETRES_A_POINT
     return size if not width else min(size, round(lines * room * FILLED / width, 1))
