@@ -121,7 +121,7 @@ class Rule:
         return say("throw_papers") if self.is_papers else say("throw_dice", dice=self.text.split()[1])
 
     def fault_of(self, number: str) -> str:
-        """Why a number is none by this rule; or nothing."""
+        """Why this rule takes no such number; or nothing."""
         values = [int(value) for value in number.split(" ")]
         if self.is_off or (len(values) >= self.least and max(values) <= self.most):
             return ""

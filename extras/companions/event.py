@@ -65,7 +65,7 @@ class Event:
 
     @cached_property
     def shown_rounds(self) -> Rounds:
-        """The rounds for the wall, where a score in doubt is none."""
+        """The rounds for the wall, on which a score in doubt counts as missing."""
         return with_doubts(self.rounds, Doubts(self.file).all()) if self.file else self.rounds
 
     @cached_property

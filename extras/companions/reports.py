@@ -63,7 +63,7 @@ TEXTS = ("at", "score", "outcome", "stored", "origin")
 
 
 def report_of(line: bytes) -> Optional[Report]:
-    """None, where a line was broken off, or is none."""
+    """None if the line is cut off or malformed."""
     try:
         told = json.loads(line)
         drops = tuple(told["drops"])

@@ -65,7 +65,7 @@ def read_contract(lines, at, indent):
 
 
 def end_of_body(lines, at, indent):
-    """The line that ends the body which is opened here; the same one where there is none."""
+    """The line that ends the body which is opened here; the same one if there is none."""
     if not lines[at].endswith("{"):
         return at
     return next(end for end in range(at + 1, len(lines)) if lines[end].startswith(indent + "}"))

@@ -62,7 +62,7 @@ class Door(socket.socket):
 
 
 class AnotherMachines(Declined):
-    """The address is none of this machine's."""
+    """The address isn't one of this machine's."""
 
 
 def door_at(host: str, port: int, most_of_one: int, word: str) -> Door:

@@ -257,7 +257,7 @@ def score_in(words: list[str]) -> Score:
 
 
 def minutes_in(text: str) -> Optional[int]:
-    """Minutes, as 50, 50min or 50 minutes; None if it is none."""
+    """Minutes, as 50, 50min or 50 minutes; None if it isn't that."""
     found = re.fullmatch(r"([0-9]{1,4})\s*(?:m|min|mins|minutes)?", text.strip(), re.I)
     return int(found[1]) if found else None
 
