@@ -82,7 +82,7 @@ def minutes_word(text: str) -> int:
 
 
 def address_word(text: str) -> str:
-    """An address as it stands on the slips: http:// is put before it where no scheme is named."""
+    """An address as it stands on the slips: http:// is put before it if no scheme is named."""
     address = text if "://" in text else f"http://{text}"
     found = re.fullmatch(r"(https?://([A-Za-z0-9.-]+|\[[0-9A-Fa-f:.]+\])(:[0-9]{1,5})?)/?", address)
     if not found:

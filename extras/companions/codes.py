@@ -18,7 +18,7 @@ LETTERS = "BCDFGHJKLMNPQRSTVWXZ"
 CODE_LENGTH = 8
 # of a player's own page, which is good for the whole evening: 20 ** 12 codes
 LINK_LENGTH = 12
-# whose code it is: one for the table, or where both have to say the score, one for each of the two seats
+# whose code it is: one for the table, or if both have to say the score, one for each of the two seats
 TABLE, FIRST_SEAT, SECOND_SEAT = 0, 1, 2
 
 
@@ -34,7 +34,7 @@ class Secret:
         return (FIRST_SEAT, SECOND_SEAT) if self.asks_both else (TABLE,)
 
     def code(self, number: int, match: Match, seat: int = TABLE) -> str:
-        """The code of a match. It is another one where other players sit, as after a round that was paired
+        """The code of a match. It is another one if other players sit, as after a round that was paired
         again by another key.
         """
         said = f"event_reporter slip 1: {number} {match.place} {match.first} {match.second}"
@@ -99,7 +99,7 @@ def path_of(file: str) -> str:
 
 
 def kept_secret(file: str) -> Optional[Secret]:
-    """What stands there, or None where nothing does."""
+    """What stands there, or None if nothing does."""
     path = path_of(file)
     try:
         with open(path, encoding="ascii", errors="replace") as kept:
@@ -117,7 +117,7 @@ def kept_secret(file: str) -> Optional[Secret]:
 
 
 def secret_for(file: str, at: str, asks_both: Optional[bool]) -> Secret:
-    """The secret beside the file, or a new one where there is none, with what the words change of it."""
+    """The secret beside the file, or a new one if there is none, with what the words change of it."""
     secret = kept_secret(file) or Secret(at, secrets.token_bytes(32))
     return replace(secret, at=at, asks_both=secret.asks_both if asks_both is None else asks_both)
 

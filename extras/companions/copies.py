@@ -98,7 +98,7 @@ class Copies:
         return Copy(int(found[1]), found[2], "away", path) if found else None
 
     def thin(self) -> None:
-        """Takes the oldest copies away where there are many: not those from before a round or the cut, from
+        """Takes the oldest copies away if there are many: not those from before a round or the cut, from
         which the event can be played again, nor those that were made by hand or put away.
         """
         others = [copy for copy in self.all() if copy.what.startswith("before-") and not copy.is_of_a_round]

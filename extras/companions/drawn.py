@@ -31,7 +31,7 @@ class Shut:
 
 
 def rule_of_event(file: str) -> Optional[Rule]:
-    """The rule of the evening, or None where there is none, or none that can be read."""
+    """The rule of the evening, or None if there is none, or none that can be read."""
     try:
         return Draws(file).rule
     except Declined:
@@ -39,7 +39,7 @@ def rule_of_event(file: str) -> Optional[Rule]:
 
 
 def text_of_round(event: Event, number: int) -> Optional[DrawText]:
-    """The text of a round that is stored, or None where it was not drawn."""
+    """The text of a round that is stored, or None if it was not drawn."""
     if not event.file or not 1 <= number <= len(event.rounds):
         return None
     return Draws(event.file).text_of_round(number, event.rounds[number - 1])

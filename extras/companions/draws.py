@@ -85,7 +85,7 @@ class Draws:
 
     @property
     def rule(self) -> Optional[Rule]:
-        """None, where nothing was said of a draw. A rule that can't be read is no rule that was not made."""
+        """None if nothing was said of a draw. A rule that can't be read is no rule that was not made."""
         path = os.path.join(self.folder, "rule")
         try:
             with open(path, encoding="ascii", errors="replace") as kept:

@@ -39,7 +39,7 @@ class Progress:
 
 
 class Event:
-    """Each part is asked once, when it is needed. What lies beside FILE is asked where a file is given."""
+    """Each part is asked once, when it is needed. What lies beside FILE is asked if a file is given."""
 
     def __init__(self, source: Source, file: str = ""):
         self.source, self.file = source, file
@@ -168,7 +168,7 @@ def found_in(lists: Rounds, number: int, place: str) -> Optional[Match]:
 
 
 def read_or_none(source: Source, file: str = "") -> Optional[Event]:
-    """The event with all that is asked of it later, or None where it can't be read."""
+    """The event with all that is asked of it later, or None if it can't be read."""
     event = Event(source, file)
     try:
         event.read()

@@ -36,7 +36,7 @@ def held_by_nobody(file: str) -> Iterator[None]:
 
 
 def opened_to_lock(file: str) -> Optional[int]:
-    """None, where nothing is there, or nothing that can be opened and so be held."""
+    """None if nothing is there, or nothing that can be opened and so be held."""
     for how in (os.O_RDWR, os.O_RDONLY):
         try:
             return os.open(file, how)

@@ -31,7 +31,7 @@ class BadLook(ValueError):
 
 @dataclass(frozen=True)
 class Look:
-    """`logo` is a picture as an address of its own; `is_dark` is None where the device decides. What can't be
+    """`logo` is a picture as an address of its own; `is_dark` is None if the device decides. What can't be
     read is left out, and said in `faults`.
     """
 

@@ -66,7 +66,7 @@ def is_passed_over(letter: str) -> bool:
 
 def plain(text: str) -> str:
     """A name as people look for it: without accents, letter case, apostrophes and hyphens, with one space
-    where there are several, and with L for a letter such as Ł.
+    if there are several, and with L for a letter such as Ł.
     """
     # an acute accent that stands alone would become a space
     letters = unicodedata.normalize("NFKD", text.replace("\u00b4", ""))

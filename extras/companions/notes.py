@@ -60,6 +60,6 @@ class Notes:
 
 
 def note_of(typed: str) -> Optional[str]:
-    """A note as it is typed, or None where no page shows it so."""
+    """A note as it is typed, or None if no page shows it so."""
     text = " ".join(typed.split())
     return text if text == visible(text) and 0 < len(text) <= MOST_LETTERS else None

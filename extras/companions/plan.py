@@ -59,7 +59,7 @@ def ordinal(number: int) -> str:
 
 
 def plan_of(file: str, turn: Turn) -> Optional[Plan]:
-    """None, where the file can't be read, or this Python has no SQLite."""
+    """None if the file can't be read, or this Python has no SQLite."""
     with contextlib.suppress(OSError), tempfile.TemporaryDirectory() as room:
         path = os.path.join(room, "copy.event")
         with turn.taken():

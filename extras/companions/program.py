@@ -273,7 +273,7 @@ class Source:
         return text
 
     def read_now(self, *words: str) -> str:
-        """The same, asked once more where another program has the file for a moment."""
+        """The same, asked once more if another program has the file for a moment."""
         for _ in range(self.most_tries - 1):
             try:
                 return self.ask(*words)
@@ -312,7 +312,7 @@ class Source:
         return self.understood(players_of, self.read(*PLAYERS))
 
     def rounds(self) -> Rounds:
-        """All rounds. Where results of the newest one are all that came, it alone is asked."""
+        """All rounds. If results of the newest one are all that came, it alone is asked."""
         stamp = self.stamp()
         older = self.kept.older_rounds(stamp)
         if older is not None and self.kept.text(RESULTS, stamp) is None:

@@ -16,7 +16,7 @@ from companions.program import (
 )
 
 Made = TypeVar("Made")
-# a reading is done again where a command came in its middle, or another program had the file for a moment
+# a reading is done again if a command came in its middle, or another program had the file for a moment
 MOST_READINGS = 6
 
 WORDS = {

@@ -144,7 +144,7 @@ def wide_codec(data: bytes) -> str:
 
 def guessed(data: bytes) -> str:
     """The encoding that fits best of those that spreadsheets write. For other scripts charset-normalizer
-    tells them apart, where it is installed. Those of Latin letters differ in few bytes, which it mistakes in
+    tells them apart, if it is installed. Those of Latin letters differ in few bytes, which it mistakes in
     a short list: of these it is the first in which no name has a sign that no name has, as £ukasz.
     """
     best = best_by_statistics(data)
@@ -183,7 +183,7 @@ def unpacked(data: bytes, codec: str, what: str) -> str:
 
 
 def tidy(text: str) -> str:
-    """Without space at either end, and with one space where there are several."""
+    """Without space at either end, and with one space if there are several."""
     return " ".join(text.split())
 
 
@@ -227,7 +227,7 @@ def table_of(text: str) -> Table:
 
 
 def read_by(text: str, delimiter: str) -> Optional[Table]:
-    """The rows, or None where a quote is not closed: it would take in all that follows."""
+    """The rows, or None if a quote is not closed: it would take in all that follows."""
     end = "the end"
     try:
         *rows, last = csv.reader(io.StringIO(f"{text}\n{end}", newline=""), delimiter=delimiter)

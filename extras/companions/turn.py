@@ -26,7 +26,7 @@ class Turn:
     @contextlib.contextmanager
     def taken(self) -> Iterator[tuple[int, ...]]:
         """The handle that holds the lock, for a program that is called meanwhile: a turn lasts until that
-        ends, also where the companion is killed. None, where there is no FILE.turn and none can be made.
+        ends, also if the companion is killed. None if there is no FILE.turn and none can be made.
         """
         if self.depth == 0:
             self.handle = self.locked()
@@ -42,7 +42,7 @@ class Turn:
     def locked(self) -> Optional[int]:
         if not self.file:
             return None
-        # where there is no event yet, nobody else uses it
+        # if there is no event yet, nobody else uses it
         makes_file = self.makes_file and os.path.exists(self.file)
         try:
             handle = os.open(self.path, os.O_RDWR | (os.O_CREAT if makes_file else 0), 0o600)

@@ -113,7 +113,7 @@ def test_the_look_of_an_event(dice):
     assert [it.text() for it in root.of("span", "subtitle")] == ["<Owls> & more"] * 2
     assert [len(it.text()) for it in root.of("span", "made")] == [len("printed 2026-11-30 20:45")] * 2
     assert sheets_text.count("base64,AAAA") == 1 and f"--paper: {PRINTED['paper']}" in sheets_text
-    # by itself a board is light, and dark where the device is
+    # by itself a board is light, and dark if the device is
     plain = page_of(read, "Friday", 1, parts_of_board(read), Board())
     assert f"--paper: {LIGHT['paper']}" in plain and "prefers-color-scheme: dark" in plain
 

@@ -491,7 +491,7 @@ def test_what_is_wrong_is_not_said_to_be_told_if_nobody_can_be_told(room, monkey
 
 
 def test_two_scores_need_what_is_stored(room):
-    """A refusal 14 by a command line doesn't say what is stored. Where it can't be read, nothing is said."""
+    """A refusal 14 by a command line doesn't say what is stored. If it can't be read, nothing is said."""
     room.queue.answers[1] = Answer(refused=14)
     room.cache.read = lambda: False
     reply = room.hand_in(1, "0-2-0")
@@ -586,7 +586,7 @@ def test_what_a_score_came_to():
     assert drops_in({"drop1": "1", "drop2": "0", "drop3": "1"}, (1, 2)) == (1,)
 
 
-# ---- where both have to say it
+# ---- if both have to say it
 
 
 @pytest.fixture

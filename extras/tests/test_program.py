@@ -1,4 +1,4 @@
-"""Which program is called where none is named."""
+"""Which program is called if none is named."""
 from __future__ import annotations
 
 from pathlib import Path

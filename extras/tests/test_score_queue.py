@@ -96,7 +96,7 @@ class Tables(Program):
 
 def stamp_of(file):
     status = os.stat(file)
-    # each change is told, also where the clock of the disk is coarse
+    # each change is told, also if the clock of the disk is coarse
     return Stamp(status.st_ino, status.st_size, 10 * status.st_size + 1, 0)
 
 

@@ -70,7 +70,7 @@ def standings():
 
 
 def report(number, table, score):
-    """Stores a score where there is none, and gives the serial."""
+    """Stores a score if there is none, and gives the serial."""
     base.execute("BEGIN IMMEDIATE")
     values = score["a"], score["b"], score["d"], number, table
     stored = base.execute("UPDATE pairing SET done = 1, x = ?, y = ?, d = ? WHERE round = ? AND tab = ? AND done = 0", values)

@@ -1,6 +1,6 @@
 """Times phones beside an event of this many players in its third round: scores one after the other, all at once, and spread over a minute, each with the pages
 that a phone loads before and after; then a score beside 900 connections that send nothing, and beside one phone that asks for the board without a pause;
-the board, the lists and players' own pages for all at once; and what comes through caddy and nginx, where they are installed. It says what is stored at the
+the board, the lists and players' own pages for all at once; and what comes through caddy and nginx, if they are installed. It says what is stored at the
 end, and how much memory it took.
 
     python3 -B -m scripts.bench.times_phones PROGRAM [PLAYERS]
@@ -117,7 +117,7 @@ def one_by_one(name, file, silent):
 
 
 def fetched(gateway, target, source):
-    """The status of a page, as a browser asks for it: compressed, where it can be."""
+    """The status of a page, as a browser asks for it: compressed, if it can be."""
     connection = http.client.HTTPConnection("127.0.0.1", gateway.port, timeout=60, source_address=(source, 0))
     try:
         connection.request("GET", target, headers={"Accept-Encoding": "gzip"})

@@ -129,7 +129,7 @@ def play_playoff(sends):
 
 
 def play_migration(sends):
-    """The same, begun in version 1 and migrated behind the cut, twice."""
+    """The same, begun in version 1 and migrated after the cut, twice."""
     event = Event(1, 4, 1)
     play_rounds(sends, event)
     for _ in range(2):
@@ -165,7 +165,7 @@ def has_table(base, name):
 
 
 def rows_read(file):
-    """The rows of the five tables, or None where there is no event. The database has to be whole, and to have no players in the other version's table."""
+    """The rows of the five tables, or None if there is no event. The database has to be whole, and to have no players in the other version's table."""
     base = sqlite3.connect(file)
     try:
         whole = base.execute("PRAGMA integrity_check").fetchall()
@@ -204,7 +204,7 @@ def rows_alone(file):
 
 
 def rows_left(file, before):
-    """The rows of a copy where the program was stopped. A file that isn't whole yet, and had no event before, has none."""
+    """The rows of a copy if the program was stopped. A file that isn't whole yet, and had no event before, has none."""
     try:
         return rows_of_copy(file)
     except sqlite3.DatabaseError:

@@ -30,7 +30,7 @@ def documented(kind):
 
 
 def command_of(kind):
-    """What starts it, or nothing where it isn't installed. Debian has nginx where only root looks."""
+    """What starts it, or nothing if it isn't installed. Debian has nginx where only root looks."""
     return shutil.which(kind, path=f"{os.environ.get('PATH', '')}:/usr/sbin")
 
 

@@ -31,7 +31,7 @@ def free_port():
 
 
 def sent_whole(client, sent):
-    """Sends the bytes. Where the other side has closed already, the rest isn't sent."""
+    """Sends the bytes. If the other side has closed already, the rest isn't sent."""
     try:
         client.sendall(sent)
     except ConnectionError:
@@ -63,7 +63,7 @@ def received(client):
 
 
 def hear_interrupts():
-    """Where these scripts run behind others, the shell may have had Ctrl-C ignored."""
+    """If these scripts run behind others, the shell may have had Ctrl-C ignored."""
     signal.signal(signal.SIGINT, signal.SIG_DFL)
 
 

@@ -4,7 +4,7 @@ answered in the time that follows from these figures, and one that comes too slo
 second. Each kind of client has a program of its own over a copy of one file, and
 all run side by side.
 
-Where a browser and `curl` are installed, three tabs show the standings, anew every five seconds, while scores are handed in. Where one of the two isn't
+If a browser and `curl` are installed, three tabs show the standings, anew every five seconds, while scores are handed in. If one of the two isn't
 there, that is left out, and a line says so.
 """
 import concurrent.futures

@@ -58,7 +58,7 @@ def test_copies(prompt, room, started):
 
 
 def goes_on_after_a_stop(prompt, file):
-    """Where `back` was stopped in its middle, its second run ends it."""
+    """If `back` was stopped in its middle, its second run ends it."""
     os.rename(file, f"{file}.away-0099-20260101-000000")
     with open(f"{file}-wal", "wb") as it:
         it.write(b"log of another file" * 100)
@@ -99,7 +99,7 @@ main()
 
 @pytest.mark.parametrize("stop, in_one_step", [(1, False), (2, False), (3, False), (1, True)])
 def test_back_stopped(prompt, program, room, started, extras, stop, in_one_step):
-    """Stopped after each of the moves of `back`: nothing is lost, `init` is declined where the file is gone, and a second `back` ends it. Where two names are
+    """Stopped after each of the moves of `back`: nothing is lost, `init` is declined if the file is gone, and a second `back` ends it. If two names are
     exchanged in one step, the file is the old event or the new one at each moment.
     """
     event, file = started("Ana", "Bo", "Cy", "Di")
@@ -141,7 +141,7 @@ def test_copy_by_hand(prompt, started):
 
 
 def test_copy_of_a_log(prompt, program, started, serve):
-    """Where `serve` was killed, what is new stands in the log. The prompt copies the event with it."""
+    """If `serve` was killed, what is new stands in the log. The prompt copies the event with it."""
     event, file = started("Ana", "Bo", "Cy")
     program.run("pair", file, "1", "0" * 64)
     event.pair(1, bytes(32))
@@ -155,7 +155,7 @@ def test_copy_of_a_log(prompt, program, started, serve):
 
 
 def test_init_again(prompt, room, started):
-    """What lay beside an earlier event of the same name is put away with the first `init`. Where its copies are there and it is gone, `back` comes first:
+    """What lay beside an earlier event of the same name is put away with the first `init`. If its copies are there and it is gone, `back` comes first:
     it may have been stopped between its two moves.
     """
     event, file = started("Ana", "Bo")

@@ -546,7 +546,7 @@ def goes_on(prompt, capsys):
         assert after == (before or ["round 1 5 5 5 5"]), f"{name}, the numbers"
         with open(sorted(glob.glob(f"{file}.draws/round-1-*.txt"))[-1], "rb") as kept:
             head = lines_of(kept.read())
-        # a round stays as it was paired, also where another number was typed for it then
+        # a round stays as it was paired, also if another number was typed for it then
         drawn = {it.split(" ", 2)[2] for it in after}
         assert (head["number"] in drawn, head["key"]) == (True, key_of(1, head["number"])), f"{name}, the text"
         assert event_check.main([file]) == 0, f"{name}: {capsys.readouterr().out}"

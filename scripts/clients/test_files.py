@@ -138,7 +138,7 @@ OPENING = [("players",), ("standings",), ("enrol", "Cy"), ("export", "players"),
 
 
 def test_untold(program, room):
-    """Where the system can't tell whether FILE is there, it is no missing one: a name or a path that is too long, and a path through a file."""
+    """If the system can't tell whether FILE is there, it is no missing one: a name or a path that is too long, and a path through a file."""
     file = made(program, f"{room}/e.event")
     before = bytes_in(room)
     for what, path in (("a name of 5,000 letters", "x" * 5_000), ("a path of 5,000 letters", "x/" * 2_500), ("a path through a file", "e.event/x")):

@@ -346,7 +346,7 @@ def test_ended(program, room, made):
 
 
 def test_no_connection(program, room, made):
-    """Where the system gives no connection, as at its limit on open files, serving ends as on a fault of the device. What was answered is stored."""
+    """If the system gives no connection, as at its limit on open files, serving ends as on a fault of the device. What was answered is stored."""
     file = made(f"{room}/e.event")
     with Serving(program.path, file, 9) as serving:
         assert serving.ask(get("/rounds/1")) == PAIRINGS, "before the limit"

@@ -1,5 +1,5 @@
 """Scores from phones over a socket: phones that hand in at once while the prompt corrects and goes back to a copy, a new event, a full disk, a proxy, guesses,
-silent clients, and streams of bytes, which h11 judges where it is installed. Kills are in `scripts.faults.phone_kills`.
+silent clients, and streams of bytes, which h11 judges if it is installed. Kills are in `scripts.faults.phone_kills`.
 """
 import concurrent.futures
 import contextlib
@@ -115,7 +115,7 @@ def asks_for_a_score(gateway, table, target):
 
 
 def test_new_event(prompt, program, room):
-    """Where a new event begins in the place of the old one, it ends, since the codes are put away."""
+    """If a new event begins in the place of the old one, it ends, since the codes are put away."""
     file = made(program.path, f"{room}/e.event")
     with Gateway(program.path, file) as gateway:
         for ending in ("", "-wal", ".turn"):
@@ -326,13 +326,13 @@ def odd_requests(host, target):
 
 
 class Judge:
-    """Whether bytes are answers as RFC 9112 has them: by h11, where it is installed."""
+    """Whether bytes are answers as RFC 9112 has them: by h11, if it is installed."""
 
     def __init__(self):
         self.h11 = importlib.import_module("h11") if importlib.util.find_spec("h11") else None
 
     def statuses(self, answered, method="GET"):
-        """The statuses of all answers, or None where they are none."""
+        """The statuses of all answers, or None if they are none."""
         if not self.h11:
             return [int(it) for it in re.findall(rb"^HTTP/1\.[01] (\d{3}) ", answered, re.M)]
         found, rest = [], answered

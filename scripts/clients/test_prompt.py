@@ -72,7 +72,7 @@ def test_without_readline(prompt, room, started):
 
 @pytest.mark.needs("menus at a terminal", module="prompt_toolkit", package="python3-prompt-toolkit")
 def test_menus(prompt, started):
-    """By prompt_toolkit, where it is installed: a part of a name brings a menu, from which TAB takes the player; and lines that are pasted behind a
+    """By prompt_toolkit, if it is installed: a part of a name brings a menu, from which TAB takes the player; and lines that are pasted behind a
     question are no answer to it.
     """
     _, file = started("Ana Lima", "Bo Sato", "Cy Young", "Di Ito")

@@ -3,7 +3,7 @@ champion, now and then two at the same moment, with every word of the prompt. Af
 what was typed or without it, and nothing else.
 
 At each window sits somebody who holds slips: a round, a table, two players and a score. Who sees the round of the slip in the prompt types the score
-alone, and otherwise the round too; a question is answered yes only where it names the slip's round, its players and its score. So each slip is stored
+alone, and otherwise the round too; a question is answered yes only if it names the slip's round, its players and its score. So each slip is stored
 at its own round and table, or declined.
 """
 import copy

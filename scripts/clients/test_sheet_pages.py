@@ -172,7 +172,7 @@ def test_names(sheets, program, room, dice):
 
 @pytest.mark.needs("sheets and boards", module="jinja2", package="python3-jinja2")
 def test_refused(sheets, program, room, dice, serve):
-    """What is said where there is nothing to show. Nothing goes to the page then."""
+    """What is said if there is nothing to show. Nothing goes to the page then."""
     event = evening(dice, 4, COMPLETE, 3, 0)
     file = laid(program.path, f"{room}/e.event", event, "E")
     last = len(event.stored)
@@ -251,7 +251,7 @@ def test_watch(watching, program, room, dice):
 
 @pytest.mark.needs("sheets and boards", module="jinja2", package="python3-jinja2")
 def test_watch_without_room(watching, program, room, dice):
-    """Where the page can't be written for a moment, as on a full disk, that is said, and the board goes on."""
+    """If the page can't be written for a moment, as on a full disk, that is said, and the board goes on."""
     event = evening(dice, 8, STARTED, 3, 0)
     file, page = laid(program.path, f"{room}/e.event", event, "E"), f"{room}/screen/board.html"
     os.mkdir(f"{room}/screen")
@@ -296,7 +296,7 @@ def test_look(sheets, program, room, dice):
 
 
 def test_without_jinja(sheets, room):
-    """Jinja2 makes the pages: where it isn't installed, the package is named."""
+    """Jinja2 makes the pages: if it isn't installed, the package is named."""
     status, text, errors = sheets.printed(f"{room}/e.event", python=BARE)
     assert (status, text, "python3-jinja2" in errors, "Traceback" in errors) == (3, "", True, False)
     status, text, errors = sheets.printed(f"{room}/e.event", "--help", python=BARE)

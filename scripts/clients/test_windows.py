@@ -157,7 +157,7 @@ def test_the_event_that_another_window_makes_is_told(prompt, room):
 
 
 def test_who_goes_home_has_a_name(prompt, begun, extras):
-    """Also where the prompt has shown no name yet."""
+    """Also if the prompt has shown no name yet."""
     sys.path.insert(0, extras)
     from companions.reports import TIME, Report, Reports
     from companions.score import Score

@@ -57,5 +57,5 @@ class Tour:
 
 
 def is_left_out(typed):
-    """What goes on behind is asked by curl. Where that isn't installed, a document ends there."""
+    """What goes on behind is asked by curl. If that isn't installed, a document ends there."""
     return typed.endswith(" &") and not shutil.which("curl")

@@ -1,8 +1,8 @@
 """Damages files of random events in either version, each in one way, and has the program print their standings, players and bracket. What C SQLite reads
-of a copy says what is due. A file that was damaged by SQL is answered by just the event that its rows stand for, or refused 27 or 29. Where bytes were
+of a copy says what is due. A file that was damaged by SQL is answered by just the event that its rows stand for, or refused 27 or 29. If bytes were
 damaged, a refusal 25, 27 or 29 is always lawful, and the texts of an event where its rows are read; only of a file that C SQLite
 can't read may the texts be those of another event, one that the file once held. A file that is refused keeps its bytes, but for an empty one, which
-is begun anew. A log beside it may be ended, or begun anew where nothing of it is read; one that wasn't there isn't left, and one that was stays. A
+is begun anew. A log beside it may be ended, or begun anew if nothing of it is read; one that wasn't there isn't left, and one that was stays. A
 file that is read is the event alone, without its log, then. An event in version 1 that is left by SQL is moved to version 2, or stays where the name of a
 table is taken.
 """
@@ -33,7 +33,7 @@ from scripts.models.random_play import random_event, version_of
 READINGS = ("standings", "players", "bracket")
 WRONGLY = "wrongly"
 REFUSALS = {number: (due([f"refused {number} {name}"]),) * 3 for number, name in ((25, "Store"), (27, "NoEvent"), (29, "Damaged"))}
-# how many of the damages of a round are of this kind, where it is more than one
+# how many of the damages of a round are of this kind, if it is more than one
 WEIGHTS = {"a value set": 4, "tables without keys": 3, "a trick": 6, "rows of another event": 9, "bytes turned": 2}
 
 Outcome = collections.namedtuple("Outcome", "kind read answer change faults")
@@ -47,7 +47,7 @@ def texts_of(event):
 
 
 class Template:
-    """A random event in three files: one with all of it in its log, as where the program was stopped behind each answer; one that the program has
+    """A random event in three files: one with all of it in its log, as when the program was stopped after each answer; one that the program has
     closed; and one into which C SQLite has put the log, and has taken it away.
     """
 
@@ -125,7 +125,7 @@ def chosen(dice, count, longest):
 
 
 def check_other_playoffs():
-    """Where the standings can no longer seed it, another playoff has the seeds that were there."""
+    """If the standings can no longer seed it, another playoff has the seeds that were there."""
     for what, change in (("a player less", lambda event: event.names.pop()), ("a cut of 3", lambda event: setattr(event, "cut", 3))):
         for number in range(10):
             event = Event(1, 2)
@@ -146,7 +146,7 @@ def kinds():
 
 
 def read_by_sqlite(file, takes=copied):
-    """What is due to the three readings by what C SQLite reads of a copy; nothing where it can't read it."""
+    """What is due to the three readings by what C SQLite reads of a copy; nothing if it can't read it."""
     with tempfile.TemporaryDirectory() as room:
         try:
             return texts_of(plain_file.read(takes(file, room)))
@@ -214,7 +214,7 @@ class Damages:
         return file, template, f"{'SQL' if part == 'rows' else 'bytes'}: {kind}"
 
     def answers(self, file):
-        """What the three readings are answered; nothing where one doesn't end."""
+        """What the three readings are answered; nothing if one doesn't end."""
         try:
             return tuple(Program(self.program).run(name, file) for name in READINGS)
         except subprocess.TimeoutExpired:

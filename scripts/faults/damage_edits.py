@@ -1,6 +1,6 @@
 """Edits good files by plain SQL, one edit each: those of worked example 43, and those that break one more rule of the rows each. The program
 refuses each such file, for reading as for writing, and leaves it as it is. The same files without the edit open. Each edit is made through
-Python's SQLite; and those of worked example 43, or `all`, through the command `sqlite3` too, where it is installed.
+Python's SQLite; and those of worked example 43, or `all`, through the command `sqlite3` too, if it is installed.
 
 The files are old ones, of version 1, which SQL makes; new ones, of version 2; and old ones that were moved to version 2. Of these last only the edits are
 made that come to different things in the three, or `all`. An event with a late entry has no old file.
@@ -24,7 +24,7 @@ program, takes_all = os.path.abspath(sys.argv[1]), sys.argv[2:] == ["all"]
 ZERO = "0" * 64
 OLD, NEW, MOVED = LAYOUTS = ("old", "new", "moved")
 Good = collections.namedtuple("Good", "file event writing")
-# the table at fault, or None where there is no event at all; or that of each kind of file on which the edit is tried. {player} is the table of players
+# the table at fault, or None if there is no event at all; or that of each kind of file on which the edit is tried. {player} is the table of players
 Edit = collections.namedtuple("Edit", "example table what sql")
 
 # worked examples, and an event of nobody: number of rounds, cut, players, the lines behind `start`, and a command for which it is time then
@@ -71,7 +71,7 @@ def loosely(table, statement):
 
 # worked example 43
 WORKED = [
-    # players are looked for in the table of version 1 where no row says 2
+    # players are looked for in the table of version 1 if no row says 2
     Edit(1, {OLD: "event", NEW: "player", MOVED: "event"}, "the event's row deleted", "DELETE FROM event"),
     Edit(1, {OLD: "player2"}, "version 2", "UPDATE event SET version = 2"),
     Edit(1, {OLD: "event", NEW: "player", MOVED: "event"}, "version 3", "UPDATE event SET version = 3"),

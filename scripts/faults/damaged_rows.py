@@ -164,7 +164,7 @@ def insert_row(dice, base, event):
 
 
 def copy_or_insert(dice, base, event):
-    """A copy; where nobody is enrolled a new row, since the table lets no second row of the event pass."""
+    """A copy; if nobody is enrolled a new row, since the table lets no second row of the event pass."""
     (copy_row if event.names else insert_row)(dice, base, event)
 
 
@@ -271,7 +271,7 @@ def damage_by(dice, base, change, event):
 
 
 def damage(dice, file, kind, event):
-    """Damages the file, in which the event stands. What was written stays in its log, as where the other program was killed, or goes into the file."""
+    """Damages the file, in which the event stands. What was written stays in its log, as when the other program was killed, or goes into the file."""
     base = sqlite3.connect(file, isolation_level=None)
     parts = [file, f"{file}-wal"] if dice.random() < 0.3 else []
     try:

@@ -1,4 +1,4 @@
-"""Stops the program by SIGKILL while it serves: behind an answer, at a random instant while a score is handed in, and in the middle of a request.
+"""Stops the program by SIGKILL while it serves: after an answer, at a random instant while a score is handed in, and in the middle of a request.
 The file then holds every score that was acknowledged, and of the one on its way all or nothing; and once a command line has run, it holds them alone,
 without its log. It is served again on the same port, and that score is sent again: it is taken, or answered with the score that is stored. Every second
 event is in version 1.
@@ -93,7 +93,7 @@ class Stops:
         return is_after and after is not before
 
     def turn(self, serving):
-        """Some scores that are acknowledged, and then a stop. Where a score was on its way it is given back, to be sent again."""
+        """Some scores that are acknowledged, and then a stop. If a score was on its way it is given back, to be sent again."""
         for _ in range(self.dice.randint(0, 2)):
             sent = self.slip()
             if sent:

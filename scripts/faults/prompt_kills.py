@@ -74,7 +74,7 @@ def is_at_work(file):
 
 
 def wait_for_the_end(file):
-    """A command that was begun goes on to its end, also where the prompt was killed."""
+    """A command that was begun goes on to its end, also if the prompt was killed."""
     comes(lambda: not is_at_work(file))
 
 

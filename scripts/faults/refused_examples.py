@@ -1,6 +1,6 @@
 """Refuses each allocation of worked examples 1, 8, 9, 14, 17, 20, 21 and 48, one at a time: as scripts, as command lines over files, and as requests
 while the program serves, its opening among them; and of the migrations of worked example 47. What is asked of each is what refused_memory.py,
-refused_file_memory.py and refused_http_memory.py ask. What is due where nothing is refused is what the worked examples show, by a plain reading of
+refused_file_memory.py and refused_http_memory.py ask. What is due if nothing is refused is what the worked examples show, by a plain reading of
 the rules.
 
 A command line or a request that comes in two examples, on the same event, is tried in the first.
@@ -36,7 +36,7 @@ SCORES = [(1, 1, "1\t1\t0"), (1, 1, "2\t0\t0"), (1, 2, "1\t2\t0"), (2, 1, "0\t2\
 WON = [*DONE, "standings", "cut", *(f"playoff\t{stage}\t{slot}\t{score}" for stage, slot, score in SCORES), "bracket"]
 NAMES = ["Ana", "Bo", "Ana"]
 
-# the number of an example, its rounds, its cut, and its lines; where a list is imported, it has the names above
+# the number of an example, its rounds, its cut, and its lines; if a list is imported, it has the names above
 EXAMPLES = [
     (1, 3, 0, [*FOUR, "players"]),
     (8, 4, 0, [*THIRD, "result\t3\t1\t2\t0\t0", f"pair\t4\t{ZERO}"]),

@@ -49,7 +49,7 @@ def write_lists(room, names):
 
 
 def bytes_of(file):
-    """The bytes of the file and of its log, or None where one isn't there. Logs are alike that differ in their salts alone."""
+    """The bytes of the file and of its log, or None if one isn't there. Logs are alike that differ in their salts alone."""
     data, log = (open(it, "rb").read() if os.path.exists(it) else None for it in (file, f"{file}-wal"))
     return data, log and without_salts(log)
 
@@ -103,7 +103,7 @@ class Line:
         return [((4, out, b"refused 24 Memory\n"), (held, later)) for (out, held), (_, later) in zip(steps, steps[1:])]
 
     def fault(self, nth):
-        """What is wrong where this allocation is refused, or None."""
+        """What is wrong if this allocation is refused, or None."""
         with tempfile.TemporaryDirectory() as room:
             at = self.copy(room)
             got, held = self.run(at, self.words, nth), self.seen_of(at)
@@ -113,7 +113,7 @@ class Line:
             return f"{self.words}, allocation {nth} of {self.count}: {got}, {held}"
 
     def faults(self, each, allocations):
-        """What is wrong where these allocations are refused, which `each` goes through, as `map` does."""
+        """What is wrong if these allocations are refused, which `each` goes through, as `map` does."""
         calm = [out for _, *shown in (self.before, self.after, [None, self.due]) for answer in shown for out in answer[1:]]
         wrong = [] if no_cause_no_fault(calm) else [f"{self.words}: a fault without a cause"]
         return wrong + [it for it in each(self.fault, allocations) if it]

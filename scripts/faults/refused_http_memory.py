@@ -59,7 +59,7 @@ class Request:
         return int(err.split()[-1])
 
     def tried(self, nth):
-        """Whether the request lacked memory where this allocation is refused, and what was wrong, if something was."""
+        """Whether the request lacked memory if this allocation is refused, and what was wrong, if something was."""
         answers, end, rows = self.served_with(nth, self.sent, SLIP)
         if ((answers, rows) == self.as_ever or (answers, rows) in self.lacking) and end == served(2):
             return answers[0] == MEMORY, None

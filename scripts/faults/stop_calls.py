@@ -6,8 +6,8 @@ fails has the command refused with 25.
 A migration finds an event in version 1, which SQL has made, closed or all in its log. The file then holds that in version 1 or in version 2, and a
 migration that is sent again is answered as ever, whichever it is.
 
-A command closes its file behind the answer. Of a call there the answer knows nothing: it is whole where the program is stopped, and where the call fails
-it is as ever, with its status. Behind the command that comes next, the file without its log holds the event.
+A command closes its file after the answer. Of a call there the answer knows nothing: it is whole if the program is stopped, and where the call fails
+it is as ever, with its status. After the command that comes next, the file without its log holds the event.
 
 Each command line makes the same calls to open a file that is closed. In the gate each of them is meddled with in every fourth line.
 """
@@ -127,7 +127,7 @@ class Calls:
 
 
 def play_migration(calls, has_log):
-    """An event of six in version 1 behind the cut to four; its migration, and another one; and the first score of its playoff."""
+    """An event of six in version 1 after the cut to four; its migration, and another one; and the first score of its playoff."""
     event = Event(1, 4, 1)
     play_rounds(lambda *_: None, event)
     calls.begin_old(event, has_log)

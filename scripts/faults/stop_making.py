@@ -1,4 +1,4 @@
-"""Has each call fail once by which `init` makes an event, in a file that is not there and in an empty one. Where the making of the database fails, the log
+"""Has each call fail once by which `init` makes an event, in a file that is not there and in an empty one. If the making of the database fails, the log
 stays beside what there is of it, though nothing is in it: it tells how far the file has got, and the next opening goes on from there. Some such files
 are no database without it, so that a program which took it away would be seen here.
 """
@@ -37,7 +37,7 @@ class Making:
             return calls_of(self.begun(room, 0)[1][2])
 
     def needs_log(self, call):
-        """Whether the file that is left where this call fails is no database without its log, in which nothing is."""
+        """Whether the file that is left if this call fails is no database without its log, in which nothing is."""
         with tempfile.TemporaryDirectory() as room, tempfile.TemporaryDirectory() as other:
             file, got = self.begun(room, call.nth, "EIO")
             log = f"{file}-wal"

@@ -60,7 +60,7 @@ class Refused:
         return after == before or not before
 
     def tried(self, call, how):
-        """What was wrong where this call was meddled with so, or nothing."""
+        """What was wrong if this call was meddled with so, or nothing."""
         with tempfile.TemporaryDirectory() as room:
             file = copied(self.file, room)
             got = self.run(file, self.words, env=meddling(self.library, call.nth, how))

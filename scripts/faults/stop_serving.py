@@ -1,5 +1,5 @@
 """Serves an event, and meddles with each call by which the program then changes a file: it stops the program there, or has this call fail once. The
-file holds every score that was acknowledged, and perhaps the one on its way. Where a call has failed, the request is answered 503 with refusal
+file holds every score that was acknowledged, and perhaps the one on its way. If a call has failed, the request is answered 503 with refusal
 25 and each later one 503 with refusal 26, or nobody is listened to. Behind `served` the file is closed, and then no answer changes.
 
 It is ended between two requests too, at once and by Ctrl-C, and closes nothing then. The command that comes next does, so that the file without its
@@ -34,7 +34,7 @@ class Meddling:
         self.events.append(event)
 
     def served(self, file, nth, how=""):
-        """What the requests are answered, and how the program ends; nothing where it ended before it listened."""
+        """What the requests are answered, and how the program ends; nothing if it ended before it listened."""
         try:
             with Serving(self.program, file, len(REQUESTS), env=meddling(self.library, nth, how)) as serving:
                 return [serving.ask(sent) for sent in REQUESTS], serving.end()
@@ -62,7 +62,7 @@ class Meddling:
         return None if rows_alone(file) == rows_of(event) else f"the file alone holds {rows_alone(file)}"
 
     def tried(self, call, how):
-        """What was wrong where this call was meddled with so, or nothing."""
+        """What was wrong if this call was meddled with so, or nothing."""
         with tempfile.TemporaryDirectory() as room:
             file = copied(self.file, room)
             answers, end = self.served(file, call.nth, how)
@@ -76,7 +76,7 @@ class Meddling:
             return None
 
     def ended(self, count, number):
-        """What was wrong where a signal ends it behind this many requests."""
+        """What was wrong where a signal ends it after this many requests."""
         with tempfile.TemporaryDirectory() as room:
             file, event = copied(self.file, room), self.events[count]
             with Serving(self.program, file, len(REQUESTS), preexec_fn=hear_interrupts) as serving:

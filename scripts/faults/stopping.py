@@ -29,6 +29,6 @@ def ways(calls):
 
 
 def run_unclosed(program, library, words):
-    """The output and the errors of a command line that is stopped behind its answer, before it closes its file: the log keeps all that it has."""
+    """The output and the errors of a command line that is stopped after its answer, before it closes its file: the log keeps all that it has."""
     _, out, err = Program(program).run(*words, env=meddling(library, 1, "unclosed"))
     return out, err

@@ -1,5 +1,5 @@
 """Stops the program at random instants of random events over files, by SIGKILL, and looks at what the file then holds: the event before the
-command or after it, whole, and after it where the command was acknowledged. Behind the commands that come next the file alone holds it, without its
+command or after it, whole, and after it if the command was acknowledged. After the commands that come next the file alone holds it, without its
 log. Then the command is sent again, if it was not taken. Half of the events begin in version 1, in files made by SQL, and are migrated on the way.
 """
 import copy

@@ -4,7 +4,7 @@ its place.
 
 In a fresh checkout all is proved from nothing, as by `rt ci`: each crate over what those below it state, and over none of their proofs. What a
 crate came to is kept with what it was made from: its sources, the toolchain, and the libraries below as they were written. A later build takes
-it while these are the same. Where checks have kept work in a crate's folder, that is used. `rt lib` in one crate's folder would keep the crates
+it while these are the same. If checks have kept work in a crate's folder, that is used. `rt lib` in one crate's folder would keep the crates
 below to itself until it ends, so that no two got on side by side; here the folders are taken once, for all.
 """
 import concurrent.futures
@@ -70,7 +70,7 @@ class Crate(rt.Crate):
             json.dump({"from": self.made_from(), "said": said}, it)
 
     def said_before(self):
-        """What the toolchain said when this was made, or None where anything is not as it was then."""
+        """What the toolchain said when this was made, or None if anything is not as it was then."""
         try:
             with open(f"{self.folder}/out/made.json", encoding="utf-8") as it:
                 kept = json.load(it)

@@ -105,7 +105,7 @@ def apply(folder, edit):
 
 
 def outcomes(folder, tests, seconds=SECONDS):
-    """What each test of a crate came to, by its name. Where one failed, the line that says why is printed: a limit is no refusal."""
+    """What each test of a crate came to, by its name. If one failed, the line that says why is printed: a limit is no refusal."""
     keep_tests(folder, tests)
     words = ["rt", "try", "--test", "--seconds", str(seconds), "--steps", "1"]
     ran = subprocess.run(words, cwd=folder, stdin=subprocess.DEVNULL, stdout=subprocess.PIPE, stderr=subprocess.STDOUT, text=True, errors="replace")

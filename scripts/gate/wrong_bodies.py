@@ -13,13 +13,13 @@ whatever its body does, so the wrong body is `unclear`. A line `unclear:` in the
 it found it to be false; with `--strict` one without such a line fails the run. The invariants stay, since no loop is proved without them.
 
 The edits of crates/NAME/controls change nothing that a function means: a space more, a `match` in place of an `if`, another name for a local. None of
-them may be refused, or what this says of wrong bodies is worth nothing. One of each crate is tried each time, all where no turn is given.
+them may be refused, or what this says of wrong bodies is worth nothing. One of each crate is tried each time, all if no turn is given.
 
 Beside the gate, which leaves processors idle while crates wait for those below them, a crate's wrong bodies are tried as soon as the gate
 has proved it, over copies of the libraries that it made. There those with a line `tried: always` are tried each time, before the others, and one of
 each public function every second time. The rest comes in more turns; so do those of constants, since the facts that refuse them are proved by the
 gate each time. The turns go on every three hours, by the time of the commit, so that the commits of a day do not all try the same ones. With no turn
-given, all are tried. Where time is short, on a machine that others use, what is left of the others is named, and not tried. What was said of those
+given, all are tried. If time is short, on a machine that others use, what is left of the others is named, and not tried. What was said of those
 that are tried each time, and of functions without their answers, is kept, as `rt ci` keeps it of its own edits, until something changes that the check
 reads.
 """
@@ -99,7 +99,7 @@ class WrongBody:
         return said in REFUSED or said == PASSED and self.is_control
 
     def applied(self, texts, crate):
-        """The texts of the crate with this edit too, or None where it does not fit beside the others."""
+        """The texts of the crate with this edit too, or None if it does not fit beside the others."""
         made = dict(texts)
         for file, old, new in self.pairs:
             text = made.get(file) or open(f"{crate.folder}/{file}", encoding="utf-8").read()
@@ -697,7 +697,7 @@ class Gate:
 
 
 def linked(one, other):
-    """Copies a file, by a link where it can be one."""
+    """Copies a file, by a link if it can be one."""
     try:
         os.link(one, other)
     except OSError:
@@ -705,7 +705,7 @@ def linked(one, other):
 
 
 def give_way(niceness):
-    """Lets other work go first. Where the kernel shares processors among sessions, niceness counts within one alone, so the session gets it too."""
+    """Lets other work go first. If the kernel shares processors among sessions, niceness counts within one alone, so the session gets it too."""
     os.nice(niceness)
     with contextlib.suppress(OSError), open("/proc/self/autogroup", "w", encoding="ascii") as it:
         it.write(str(niceness))

@@ -97,7 +97,7 @@ class Answers:
         return "".join(made)
 
     def fenced(self, path):
-        """The lists in blocks where nothing is typed are those of transcripts and typed lines."""
+        """The lists in blocks in which nothing is typed are those of transcripts and typed lines."""
         self.texts[path] = FENCED.sub(lambda block: self.replaced(path, block[1]), self.texts.get(path) or read(path))
 
     def replaced(self, path, block):

@@ -33,7 +33,7 @@ def points_of(matches):
 
 
 def due(before, sitting, key):
-    """The round that the rules give to those who sit in it, after these matches; None where none is legal."""
+    """The round that the rules give to those who sit in it, after these matches; None if none is legal."""
     points, words = points_of(before), dict(zip(sitting, words_of(key, len(sitting))))
     order = sorted(sitting, key=lambda it: (-points.get(it, 0), words[it], it)) + [0] * (len(sitting) % 2)
     pairs = earliest(order, {frozenset(match[:2]) for match in before}, itertools.count(1))

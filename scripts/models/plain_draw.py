@@ -103,7 +103,7 @@ def event_of(players, results):
 
 
 def due(event, key):
-    """The tables of the next round by a key, as [first, second or 0]; None where there are none."""
+    """The tables of the next round by a key, as [first, second or 0]; None if there are none."""
     paired = copy.deepcopy(event)
     is_paired = paired.pair(len(event.stored) + 1, key)[0].startswith("ok ")
     return [match[:2] for match in paired.stored[-1]] if is_paired else None

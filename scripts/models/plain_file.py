@@ -89,7 +89,7 @@ def check_keys(table, rows):
 
 
 def score_of(table, done, score):
-    """The score of a row, or None where the match has none."""
+    """The score of a row, or None if the match has none."""
     need(table, done in (0, 1), "done")
     need(table, min(score) >= 0, "games below 0")
     if done:
@@ -236,7 +236,7 @@ def version_said(rows):
 
 
 def read(file):
-    """The event of a file. NoEvent or Damaged is raised where it holds none, and an error of C SQLite where that can't read it."""
+    """The event of a file. NoEvent or Damaged is raised if it holds none, and an error of C SQLite if that can't read it."""
     base = sqlite3.connect(file, isolation_level=None)
     base.text_factory = bytes
     try:

@@ -182,7 +182,7 @@ def shown(event, route):
 
 
 def submitted(event, route, score):
-    """The answer to a score that is handed in. Where it is accepted, the event has it then."""
+    """The answer to a score that is handed in. If it is accepted, the event has it then."""
     match = match_of(event, *route)
     stored = match[2] if match else None
     if event.serial == LAST_SERIAL and copy.deepcopy(event).report(*route, score, True)[0].startswith("ok"):

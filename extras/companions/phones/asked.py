@@ -44,7 +44,7 @@ class Settled(Exception):
 
 
 def fields_of(text: str) -> Optional[Fields]:
-    """Fields, each once, or None where they are none."""
+    """Fields, each once, or None if they are none."""
     if len(text) > MOST_BODY:
         return None
     try:

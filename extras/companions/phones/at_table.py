@@ -88,7 +88,7 @@ class AtTable:
 
     @property
     def you(self) -> Optional[Player]:
-        """Whose seat it is, or None where the code is the table's."""
+        """Whose seat it is, or None if the code is the table's."""
         number = {FIRST_SEAT: self.match.first, SECOND_SEAT: self.match.second}.get(self.seat)
         return self.snapshot.players[number] if number else None
 

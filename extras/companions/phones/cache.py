@@ -141,7 +141,7 @@ class EventCache:
         return kept_clock(self.file)
 
     def read(self) -> bool:
-        """Whether it was read. Where it wasn't, what was read before stays."""
+        """Whether it was read. If it wasn't, what was read before stays."""
         with self.reading:
             of_event, beside = self.stamp_now()
             begun = time.monotonic()
@@ -165,7 +165,7 @@ class EventCache:
         return False
 
     def read_if_changed(self) -> None:
-        """At once, where somebody is told what is stored."""
+        """At once, if somebody is told what is stored."""
         if self.stamp_now() != self.stamp:
             self.read()
 
@@ -239,7 +239,7 @@ class EventCache:
 
 
 def time_of(path: str) -> float:
-    """When it was changed last, or none where it isn't there."""
+    """When it was changed last, or none if it isn't there."""
     try:
         return os.stat(path).st_mtime
     except OSError:

@@ -66,7 +66,7 @@ class Desk(Pages):
         return self.overview() if asked.path == "/" else self.told(404, DEFAULT, "no_page")
 
     def links(self) -> Reply:
-        """Where no printer is, players scan their own pages off the screen."""
+        """Without a printer players scan their own pages off the screen."""
         snapshot = self.cache.now
         words = {"heading": named(snapshot.title), "clock": "", "players": snapshot.by_name}
         return Reply(200, rendered("links.html", DEFAULT, **words))

@@ -1,4 +1,4 @@
-"""FILE.phones while phones are served: locked, and written again where it was lost."""
+"""FILE.phones while phones are served: locked, and written again if it was lost."""
 from __future__ import annotations
 
 import fcntl

@@ -73,7 +73,7 @@ class Crowded(Exception):
 
 class DelayQueues:
     """For each key a queue whose members are let through one after the other, this many seconds apart; a few
-    wait, and more are turned away, also where too many wait of all keys.
+    wait, and more are turned away, also if too many wait of all keys.
     """
 
     def __init__(self, seconds: float, most_waiting: int, most_in_all: int):

@@ -95,7 +95,7 @@ def start_clock(file: str, minutes: int) -> None:
 
 
 def missing_packages() -> list[str]:
-    """What has to be installed, with what is useful beside it; nothing where it goes on without."""
+    """What has to be installed, with what is useful beside it; nothing if it goes on without."""
 
     def missing(packages: tuple[tuple[str, str], ...]) -> list[str]:
         return [package for module, package in packages if importlib.util.find_spec(module) is None]

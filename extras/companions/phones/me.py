@@ -23,7 +23,7 @@ class Record:
 
     @property
     def shown(self) -> str:
-        """Won, lost and drawn matches; drawn ones where there are any."""
+        """Won, lost and drawn matches; drawn ones if there are any."""
         counts = [self.totals.won, self.totals.lost, *[self.totals.drawn] * bool(self.totals.drawn)]
         return "-".join(map(str, counts))
 
@@ -53,7 +53,7 @@ class InPlayoff:
 class Me:
     own: Record
     number: int
-    # of the newest round, or None where the player isn't in it
+    # of the newest round, or None if the player isn't in it
     match: Optional[Match]
     opponent: Optional[Record]
     in_playoff: Optional[InPlayoff]

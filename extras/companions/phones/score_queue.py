@@ -119,7 +119,7 @@ class Seats:
         return (match.first, match.second) if match else None
 
     def carry(self, serials: list[int]) -> None:
-        """These results were taken. Where their serials are the next ones, nobody else changed anything."""
+        """These results were taken. If their serials are the next ones, nobody else changed anything."""
         if not serials:
             return
         is_next = self.serial >= 0 and serials == [self.serial + at for at in range(1, len(serials) + 1)]
@@ -234,7 +234,7 @@ class ScoreQueue:
                 time.sleep(SECONDS_BETWEEN_TRIES)
 
     def is_seated(self, score: Waiting) -> bool:
-        """Asked within a turn. Where others sit at the table, nobody waits any more."""
+        """Asked within a turn. If others sit at the table, nobody waits any more."""
         try:
             is_there = score.seats is None or self.seats.at(score.number, score.table) == score.seats
         except FAULTS as fault:
@@ -246,7 +246,7 @@ class ScoreQueue:
         return score.is_wanted
 
     def by_line(self, score: Waiting) -> Optional[Answer]:
-        """None, where the file was not free, or the program ended without an answer."""
+        """None if the file was not free, or the program ended without an answer."""
         with self.source.turn.taken():
             if not self.is_seated(score):
                 return None

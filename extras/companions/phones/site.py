@@ -537,7 +537,7 @@ class Site(Pages):
         return self.shown_again(at, "stored.html", score=self.with_names(at, score), said=other)
 
     def waits(self, at: AtTable, said: dict[int, Report]) -> Reply:
-        """Where both have to say it: what this seat said, and the other one if that differs."""
+        """If both have to say it: what this seat said, and the other one if that differs."""
         return self.shown_again(at, "waits.html", **self.half_words(at, said))
 
     def half_words(self, at: AtTable, said: dict[int, Report]) -> dict[str, Any]:
@@ -590,7 +590,7 @@ class Site(Pages):
             return True
 
     def answered(self, at: AtTable, score: Score) -> Reply:
-        """What the program says of it. What it took is stored, also where no report of it can be written."""
+        """What the program says of it. What it took is stored, also if no report of it can be written."""
         phone = f"{at.asked.origin} {at.seat}"
         answer = self.queue.report(at.number, at.match.place, score, at.seats, phone)
         is_reported = answer.refused == Refusal.ALREADY_REPORTED

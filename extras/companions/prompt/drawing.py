@@ -263,7 +263,7 @@ class Drawing:
         )
 
     def with_kept_key(self, number: int, wanted: Wanted) -> Wanted:
-        """Where no number counts for the round, `pair again` takes the key by which it was paired before."""
+        """If no number counts for the round, `pair again` takes the key by which it was paired before."""
         if wanted.word != "again" or (self.draws.is_on and self.draws.numbers(number)):
             return wanted
         key = self.session.keys.last(number)

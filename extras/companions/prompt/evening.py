@@ -291,7 +291,7 @@ class Evening:
         session.say_where()
 
     def offer_scores(self) -> None:
-        """After a pairing: what the round had before `back`, where the same players sit."""
+        """After a pairing: what the round had before `back`, if the same players sit."""
         session, before = self.session, self.put_away
         if not before or not session.lines.is_terminal:
             return

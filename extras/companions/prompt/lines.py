@@ -96,12 +96,12 @@ class Readline:
 
     def say_above(self, prompt: str, text: str) -> None:
         is_plain = os.environ.get("TERM", "dumb") in PLAIN_TERMINALS
-        # the line is taken away and comes again; where a terminal can't take it away, a new one is begun
+        # the line is taken away and comes again; if a terminal can't take it away, a new one is begun
         print(f"{NEW_LINE if is_plain else LINE_AWAY}{text}\n{prompt}{self.typed()}", end="", flush=True)
 
 
 def typing_at_terminal(offers: Offers) -> Typing:
-    """By prompt_toolkit, where it is installed and the terminal can show menus."""
+    """By prompt_toolkit, if it is installed and the terminal can show menus."""
     if os.environ.get("TERM", "dumb") not in PLAIN_TERMINALS:
         with contextlib.suppress(ImportError):
             from companions.prompt.menus import Menus
@@ -128,7 +128,7 @@ class Input:
         return self.asking is not None
 
     def say_above(self, lines: list[str], asked: int, prompt: Optional[str] = None) -> Optional[str]:
-        """What was typed of the line by then, or None if nothing was said, as where the line for which it was
+        """What was typed of the line by then, or None if nothing was said, as when the line for which it was
         found out was entered meanwhile. The prompt may change with it.
         """
         with self.screen:

@@ -54,7 +54,7 @@ def parser() -> argparse.ArgumentParser:
 
 
 def prepare_streams() -> None:
-    """Names come in and go out as UTF-8, also where the machine says nothing of letters."""
+    """Names come in and go out as UTF-8, also if the machine says nothing of letters."""
     for stream, errors in ((sys.stdin, "surrogateescape"), (sys.stdout, "backslashreplace")):
         assert isinstance(stream, io.TextIOWrapper)
         stream.reconfigure(encoding=None if stream.isatty() else "utf-8", errors=errors)

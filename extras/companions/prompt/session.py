@@ -158,7 +158,7 @@ class Session:
             self.write(f"{line}\n")
 
     def say_filled(self, text: str) -> None:
-        """A line that may be longer than the terminal is wide, as where many tables are open."""
+        """A line that may be longer than the terminal is wide, as when many tables are open."""
         self.write(f"{textwrap.fill(text, WIDTH, break_long_words=False, break_on_hyphens=False)}\n")
 
     def say_as_it_is(self, text: str) -> None:
@@ -355,7 +355,7 @@ class Session:
     # ---- sending
 
     def told(self, command: Command, ask: Callable[[], str]) -> str:
-        """The answer. Where none came, or where the file failed, what the program says is stored."""
+        """The answer. If none came, or if the file failed, what the program says is stored."""
         for _ in range(MOST_TRIES - 1):
             try:
                 return ask()

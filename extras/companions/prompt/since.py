@@ -40,7 +40,7 @@ def missing_since(before: Event, now: Event) -> list[Missing]:
 
 
 def results_since(before: Event, now: Event, number: int) -> Iterator[Missing]:
-    """The scores of a round, where the same players sit."""
+    """The scores of a round, if the same players sit."""
     for match in now.rounds[number - 1]:
         old = before.match(number, str(match.place))
         is_same_pair = old and (old.first, old.second) == (match.first, match.second)

@@ -150,7 +150,7 @@ NOT_SWISS: dict[Optional[Phase], str] = {
     Phase.PLAYOFF: "The Swiss rounds are over, and the playoff has begun. See: open",
     Phase.FINISHED: "The event is over: the playoff has its champion. See: final",
 }
-# the same, where somebody was to drop
+# the same, if somebody was to drop
 NOBODY_DROPS: dict[Optional[Phase], str] = {
     Phase.ENROLLING: "Nobody drops before the start. If somebody won't play: start, and then drop 12",
     Phase.PLAYOFF: "The playoff has begun, and nobody drops any more. If one leaves, the other one\n"

@@ -75,7 +75,7 @@ def lines_in(name: str, room: float) -> tuple[int, bool]:
 
 
 def heights_of(rows: list[Names], room: float, may_break: bool) -> Optional[list[float]]:
-    """Of each row; None, where a word would be broken."""
+    """Of each row; None if a word would be broken."""
     heights = []
     for names in rows:
         found = [lines_in(name, room) for name in names]

@@ -36,7 +36,7 @@ Writes one HTML page with the sheets of an event: pairings by table and by name,
 result slips to cut for the tables that have no score yet, standings, the
 bracket, and the final ranking. Open it in a browser and print it: each part
 begins a page of its own. At a terminal it goes into FILE.sheets.html, or with
---board into FILE.board.html; into a pipe or a file it is printed. Where phones
+--board into FILE.board.html; into a pipe or a file it is printed. If phones
 hand in (event-phones), each slip of the newest round has its code. FILE.look
 may give a subtitle, an accent colour, a logo, and the language of the room.
 """
@@ -100,7 +100,7 @@ class Watch:
         except Declined as fault:
             if self.written is None:
                 raise
-            # as where the disk is full for a moment
+            # as when the disk is full for a moment
             self.say_once(str(fault))
             return
         self.stamp, self.written, self.said = stamp, text, ""
@@ -177,7 +177,7 @@ def wanted_by(words: argparse.Namespace) -> Wanted:
 
 
 def page_for(words: argparse.Namespace) -> str:
-    """The file that the page goes into, or nothing where it is printed."""
+    """The file that the page goes into, or nothing if it is printed."""
     if words.output == "-":
         return ""
     beside = page_beside(words.file, words.board) if sys.stdout.isatty() else ""

@@ -46,7 +46,7 @@ class Wanted:
     # a page for the screen; and a dark one, whatever FILE.look says
     is_board: bool = False
     is_dark: bool = False
-    # where nothing is there of what is asked for, it is said
+    # if nothing is there of what is asked for, it is said
     may_be_empty: bool = True
 
 

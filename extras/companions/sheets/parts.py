@@ -59,7 +59,7 @@ class NameRow:
 
 @dataclass(frozen=True)
 class Reach:
-    """Where phones are served: what is typed, and what is scanned, as SVG, or nothing."""
+    """If phones are served: what is typed, and what is scanned, as SVG, or nothing."""
 
     address: str
     square: str
@@ -384,7 +384,7 @@ def part_of(
     by_first: bool = False,
     say: Say = say_in(DEFAULT),
 ) -> Optional[Part]:
-    """A part of the event and of the round of this number, or nothing where there is nothing for it."""
+    """A part of the event and of the round of this number, or nothing if there is nothing for it."""
     if kind == "players":
         return None if event.rounds else players_part(event, by_first, say)
     if kind == "draw":

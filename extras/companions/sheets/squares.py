@@ -8,7 +8,7 @@ MOST_BYTES = 2953
 
 
 def square_of(data: Union[str, bytes], error: str = "m") -> str:
-    """The square as SVG, or nothing where segno is not installed, or where no square has room for so much. A
+    """The square as SVG, or nothing if segno is not installed, or where no square has room for so much. A
     page takes it as it is.
     """
     try:
