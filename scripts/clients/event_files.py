@@ -23,7 +23,7 @@ def bytes_in(room):
 
 
 def words_of(line, file):
-    """The words of a command line: those of a line of a script, with FILE behind the first."""
+    """The words of a command line: those of a line of a script, with FILE after the first."""
     name, *rest = line.split("\t")
     return [name, file, *rest]
 

@@ -118,7 +118,7 @@ class Serving:
             return received(client)
 
     def end(self):
-        """The status, and what was printed behind the line with the port."""
+        """The status, and what was printed after the line with the port."""
         try:
             out, err = self.process.communicate(timeout=PATIENCE)
         except subprocess.TimeoutExpired:

@@ -128,7 +128,7 @@ class Kinds:
         yield "one that drips, the file", rows_alone(file), rows_of(self.after)
 
     def steady(self, file):
-        """One that is slow, and yet within each limit, is answered; so is the one behind it."""
+        """One that is slow, and yet within each limit, is answered; so is the one after it."""
         with Serving(self.program, file, 2) as serving, serving.client() as client, concurrent.futures.ThreadPoolExecutor(1) as others:
             slip = others.submit(asked, serving, GET_SLIP)
             drip(client, POST, 8, 0.4 * READ, slip.done)
@@ -145,7 +145,7 @@ class Kinds:
                 with serving.client() as client:
                     drip(client, POST[:at], at, 1.5 * READ, lambda: False)
                     sent_whole(client, POST[at:])
-                    yield f"one that stops behind {at} bytes", received(client), b""
+                    yield f"one that stops after {at} bytes", received(client), b""
             yield "behind ones that stop", asked(serving, GET_SLIP)[0], self.slip
             yield "the score once more", asked(serving, POST)[0], self.accepted
             yield "ones that stop, the end", serving.end(), served(len(places) + 2)

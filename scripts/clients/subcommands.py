@@ -6,7 +6,7 @@ SOURCE = os.path.join(os.path.dirname(__file__), "../../crates/er_words/src/line
 
 
 def listed(help_text):
-    """Each name with the words behind it, in the order of the help."""
+    """Each name with the words after it, in the order of the help."""
     return re.findall(r"^  ([a-z]+) (FILE(?: [A-Z]+)*)  ", help_text, re.M)
 
 

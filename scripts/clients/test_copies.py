@@ -16,7 +16,7 @@ from scripts.models.plain_file import read
 
 
 def test_copies(prompt, room, started):
-    """What comes behind a copy, and how the prompt goes back to it."""
+    """What comes after a copy, and how the prompt goes back to it."""
     event, file = started(*(f"P{it}" for it in range(1, 9)))
     prompt.said(file, "pair", "1 2 0", "2 2 1", "3 2 0", "4 0 2", "drop 3", "y", "fix 1 2 1", "enrol Late", "pair", "1 2 0")
     before = rows_alone(file)
@@ -151,7 +151,7 @@ def test_copy_of_a_log(prompt, program, started, serve):
     event.report(1, 1, (2, 1, 0), True)
     prompt.said(file, "pair")
     (copy,) = os.listdir(f"{file}.copies")
-    assert rows_alone(f"{file}.copies/{copy}") == rows_of(event, "E"), "a copy behind a kill"
+    assert rows_alone(f"{file}.copies/{copy}") == rows_of(event, "E"), "a copy after a kill"
 
 
 def test_init_again(prompt, room, started):

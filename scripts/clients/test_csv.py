@@ -102,7 +102,7 @@ LISTS = {
     "semicolons": (b"no;name;dropped\r\n1;Ana;0\r\n", bad("heading")),
     "tabs": (b"no\tname\tdropped\n1\tAna\t0\n", bad("heading")),
     "capitals": (b"Name\nAna\n", bad("heading")),
-    "a space behind the comma": (b"no, name, dropped\n1, Ana, 0\n", bad("heading")),
+    "a space after the comma": (b"no, name, dropped\n1, Ana, 0\n", bad("heading")),
     "UTF-16": ("\ufeffname\nAna\n".encode("utf-16-le"), bad("heading")),
     "Latin-1": ("name\nZoë\n".encode("latin-1"), bad("row 1")),
     "UTF-8": ("name\nZoë\n大会\n".encode(), tally(2, 0)),

@@ -224,7 +224,7 @@ def reset(client):
 
 
 def test_broken(program, room, made):
-    """Worked example 45, as far as a network shows it: connections that break behind each byte of the request, and before the answer is read."""
+    """Worked example 45, as far as a network shows it: connections that break after each byte of the request, and before the answer is read."""
     file = made(f"{room}/e.event")
     with Serving(program.path, file, len(POST) + 5) as serving:
         for size in range(len(POST)):

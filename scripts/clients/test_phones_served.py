@@ -153,7 +153,7 @@ def test_full_disk(program, room):
     os.symlink("/dev/full", f"{file}.reports")
     with Gateway(program.path, file) as gateway:
         aims = targets(program.path, file)
-        assert gateway.hand_in(aims[1], "2-0-0") == (303, aims[1]), "stored behind a full disk"
+        assert gateway.hand_in(aims[1], "2-0-0") == (303, aims[1]), "stored after a full disk"
         assert gateway.hand_in(aims[1], "0-2-0")[0] == 303, "another score"
         text = gateway.ask("GET", "/", port=gateway.desk_port)[2]
         check_said("the scorekeeper's page", text, "be written: 2 reports", "fix 1 1 0 2 0")

@@ -100,7 +100,7 @@ def test_calls(prompt, program, room, started, stand_in):
 
 
 def test_lost(prompt, program, room, stand_in):
-    """The program is killed before a command or behind it: the prompt says what is stored."""
+    """The program is killed before a command or after it: the prompt says what is stored."""
     lossy = stand_in(LOSSY)
     lines = [["start"], ["pair"], ["1 2 1"], ["fix 1 0 2"], ["drop 4", "y"], ["cut", "y"], ["play final 2 0"], ["enrol Zed"]]
     event = Event(1, 2)
@@ -121,7 +121,7 @@ def test_lost(prompt, program, room, stand_in):
         assert read(file).serial == serial + 1, f"lost behind {line[0]}, the serial"
 
 
-# another program has the file for a moment: before the command, or behind it
+# another program has the file for a moment: before the command, or after it
 BUSY = """
 if [ "$1" = result ] && [ -e "$2.busy" ]; then
     [ "$(cat "$2.busy")" = behind ] && "$REAL" "$@" > "$2.out"

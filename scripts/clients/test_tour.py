@@ -1,4 +1,4 @@
-"""What the documents show: in each block of kind `console` the lines behind `$` are typed, where `event_reporter` is the program as it is built. What they
+"""What the documents show: in each block of kind `console` the lines after `$` are typed, where `event_reporter` is the program as it is built. What they
 print, errors too, has to be what stands beneath them.
 """
 import glob

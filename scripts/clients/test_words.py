@@ -83,7 +83,7 @@ def test_typed(prompt, started):
     check_said("correct", prompt.said(file, "correct 1 1 0 2 0"), "ok ", "0-2-0", "in place of 2-1-0")
     for line in ("1 draw", "1 1-1 draw", "17 tie"):
         check_said(line, prompt.said(file, line), "17 1 1 1 with a drawn game", "17 0 0 3")
-    check_said("a drop behind a refused result", prompt.said(file, f"1 2 1 drop {first}"), "fix 1 1 2 1 0", "refused 14 AlreadyReported")
+    check_said("a drop after a refused result", prompt.said(file, f"1 2 1 drop {first}"), "fix 1 1 2 1 0", "refused 14 AlreadyReported")
     check_said("help all", prompt.said(file, "help all"), "17 2 1", "init NAME ROUNDS CUT", "result 3 17 2 1 0")
 
 

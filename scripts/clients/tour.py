@@ -1,5 +1,5 @@
-"""Types the lines that a document shows behind `$`, in blocks of kind `console`, one after the other in one new folder, in which the examples are and a
-program of the caller's choice is called `event_reporter`. A line that ends with `&` goes on behind the ones that follow; what stands beneath it is what it
+"""Types the lines that a document shows after `$`, in blocks of kind `console`, one after the other in one new folder, in which the examples are and a
+program of the caller's choice is called `event_reporter`. A line that ends with `&` goes on beside the ones that follow; what stands beneath it is what it
 prints at once, and beneath `wait` stands the rest. The port that is shown stands for one that is free.
 """
 import os

@@ -1,4 +1,4 @@
-"""Reads transcripts: lines that are sent, each behind `>` and a space, and beneath them what they are answered. In a line that is sent \\t, \\r
+"""Reads transcripts: lines that are sent, each after `>` and a space, and beneath them what they are answered. In a line that is sent \\t, \\r
 and \\xNN stand for one byte, `\\c` at its end says that it has no line feed, and ZERO is the seed of 64 digits 0. An empty line begins the
 next part, with no event. A line that begins with `#` says what is shown.
 """

@@ -27,7 +27,7 @@ Good = collections.namedtuple("Good", "file event writing")
 # the table at fault, or None if there is no event at all; or that of each kind of file on which the edit is tried. {player} is the table of players
 Edit = collections.namedtuple("Edit", "example table what sql")
 
-# worked examples, and an event of nobody: number of rounds, cut, players, the lines behind `start`, and a command for which it is time then
+# worked examples, and an event of nobody: number of rounds, cut, players, the lines after `start`, and a command for which it is time then
 EXAMPLES = {
     0: (3, 0, (), None, "drop 1"),
     1: (3, 0, ("Ana", "Bo", "Cy", "Di"), None, "start"),

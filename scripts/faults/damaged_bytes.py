@@ -75,7 +75,7 @@ def exchange_frames(dice, data):
 
 
 def turn_with_sums(dice, data):
-    """Checksums are right again behind it, so that what is wrong lies deeper."""
+    """Checksums are right again after it, so that what is wrong lies deeper."""
     return with_sums(turn(dice, data))
 
 

@@ -36,7 +36,7 @@ KILLED = [f"enrol P{it}" for it in range(1, 6)] + [
 
 
 def replayed(lines, file):
-    """The plain events behind each line of the script, with the keys of FILE.keys."""
+    """The plain events after each line of the script, with the keys of FILE.keys."""
     keys = dict(keys_of(file)) if os.path.exists(f"{file}.keys") else {}
     event, found = Event(2, 2), {}
     for line in lines:

@@ -32,7 +32,7 @@ COMMANDS = [
     # a fault of usage, which is told in words
     (["pair", "1", "no key"], True),
 ]
-# two new names before one that is there, and one behind it
+# two new names before one that is there, and one after it
 NAMES = ["Q1", "Q2", "P1", "Q3"]
 MEMORY = 4, b"", b"refused 24 Memory\n"
 

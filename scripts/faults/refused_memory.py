@@ -23,7 +23,7 @@ class Script:
         *self.until, self.count = (int(it) for it in said.split())
         ends = [len(self.run(commands[:count])[1]) for count in range(len(commands) + 1)]
         self.answers = [self.output[start:end] for start, end in zip(ends, ends[1:])]
-        # what the commands behind each are answered, if it was not sent
+        # what the commands after each are answered, if it was not sent
         self.without = [self.run(commands[:at] + commands[at + 1 :])[1][end:] for at, end in enumerate(ends[:-1])]
 
     def run(self, commands, nth=0):

@@ -48,7 +48,7 @@ class Calls:
     def __init__(self, program, library, stride, pool):
         self.program, self.library, self.stride, self.pool = os.path.abspath(program), library, stride, pool
         self.lines = self.refused = 0
-        # before the answer is out, and behind it
+        # before the answer is out, and after it
         self.stops, self.faults = [0, 0], [0, 0]
         self.wrong = []
 
@@ -99,8 +99,8 @@ class Calls:
 
     def told(self):
         return (
-            f"{self.lines} command lines, {self.stops[False] + self.stops[True]} stops, {self.stops[True]} of them behind the answer, "
-            f"{self.faults[False] + self.faults[True]} faults of the device, {self.faults[True]} of them behind the answer, {self.refused} refused, "
+            f"{self.lines} command lines, {self.stops[False] + self.stops[True]} stops, {self.stops[True]} of them after the answer, "
+            f"{self.faults[False] + self.faults[True]} faults of the device, {self.faults[True]} of them after the answer, {self.refused} refused, "
             f"{len(self.wrong)} wrong"
         )
 

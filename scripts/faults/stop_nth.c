@@ -1,6 +1,6 @@
 /* Loaded before a program, it meddles with the Nth call (STOP_NTH) by which the program changes a file or has it kept for good. STOP_HOW says how:
-   `before` ends the process in place of the call, `half` ends it behind half of a write, or behind another call, and `EIO` or `ENOSPC` has this one
-   call fail with that error, and changes nothing. `unclosed` ends it in place of the Nth such call behind an answer. With STOP_NTH=0 it meddles with
+   `before` ends the process in place of the call, `half` ends it after half of a write, or after another call, and `EIO` or `ENOSPC` has this one
+   call fail with that error, and changes nothing. `unclosed` ends it in place of the Nth such call after an answer. With STOP_NTH=0 it meddles with
    none, and says at the end on standard error what the calls were, a letter each: `w` for a write, `k` for another one, and `a` for an answer, which goes
    to the output, to the errors or to a client, and isn't counted. */
 #define _GNU_SOURCE

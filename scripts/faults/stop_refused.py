@@ -22,7 +22,7 @@ def laid(file, data):
 
 
 def kinds(program, room):
-    """Files with a command that each refuses, the answer, and a command that comes behind it, with its answer."""
+    """Files with a command that each refuses, the answer, and a command that comes after it, with its answer."""
     empty, text, other, damaged, there, taken = (f"{room}/{it}" for it in ("empty", "text", "other", "damaged", "there", "taken"))
     laid(empty, b"")
     laid(text, b"Ana\nBo\n" * 900)

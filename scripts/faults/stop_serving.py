@@ -46,7 +46,7 @@ class Meddling:
             return calls_of(self.served(copied(self.file, room), 0)[1][2])
 
     def are_lawful(self, answers, known, end, call, how):
-        """Whether the answers behind those that are as ever are what may follow a stop, or a call that failed."""
+        """Whether the answers after those that are as ever are what may follow a stop, or a call that failed."""
         later, is_stop = answers[known:], how in STOPS
         if call.is_behind:
             return answers == self.due and end == ((-signal.SIGKILL, *SERVED[1:]) if is_stop else SERVED)
@@ -55,7 +55,7 @@ class Meddling:
         return not later or later == [STORE] + [NEEDS_REOPEN] * (len(later) - 1)
 
     def rest(self, file, event):
-        """What was wrong with the command that comes next, and with the file alone behind it."""
+        """What was wrong with the command that comes next, and with the file alone after it."""
         shown = Program(self.program).run("players", file), Program(self.program).run("standings", file)
         if shown != (due(event.players()), due(event.standings())):
             return f"{shown}"
@@ -86,7 +86,7 @@ class Meddling:
             rows = rows_of_copy(file)
             wrong = self.rest(file, event)
             if wrong or (answers, end, rows) != (self.due[:count], (-number, b"", b""), rows_of(event)):
-                return f"signal {number} behind {count} requests: {answers}, {end}, {rows}, {wrong}"
+                return f"signal {number} after {count} requests: {answers}, {end}, {rows}, {wrong}"
             return None
 
 
@@ -103,7 +103,7 @@ def main(program, library):
     behind = sum(call.is_behind for call in stops)
     print("\n".join(wrong), file=sys.stderr, end="\n" if wrong else "")
     print(
-        f"stops while serving: {len(ends)} between requests, {len(stops)} at a call, {behind} of them behind the last answer; "
+        f"stops while serving: {len(ends)} between requests, {len(stops)} at a call, {behind} of them after the last answer; "
         f"{len(tries) - len(stops)} faults of the device; {len(wrong)} wrong"
     )
     return 1 if wrong else 0
