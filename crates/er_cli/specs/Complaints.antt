@@ -44,6 +44,6 @@ Complains (name ∷ words) text =
     × (text ≡ (complaint_head (slice_get (name ∷ words) (place_of fault)) ++ what_is_wrong fault)
     ++ unwrap_or (subcommand_text name) TRY_HELP.now)
 
--- What is wrong goes to the errors, or that memory is wanting. The output stays as it is.
+-- What is wrong goes to the errors, or that memory ran out. The output stays as it is.
 abbrev pub EndsAsUsage : List (List ℕ) → Printed → Type 0
 EndsAsUsage words p = ((text : List ℕ) × Complains words text × Says text USAGE p.err p.out p.status) ⊎ Tells (Refused Memory) p

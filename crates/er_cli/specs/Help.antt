@@ -67,7 +67,7 @@ asks_text _ = false
 
 -- ---- where an answer goes, and the status that comes with it
 
--- want of memory, a fault of the store, and any other refusal
+-- out of memory, a fault of the store, and any other refusal
 abbrev pub refusal_status : Refusal → ℕ
 refusal_status Memory = MEMORY
 refusal_status (Store cause) = DEVICE

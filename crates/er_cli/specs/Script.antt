@@ -42,7 +42,7 @@ Acts (Some old) (Open (Ask question)) answer new =
     (told : Told) × (next : DeskState) × AnswersDesk ⊤ old question told next × (answer ≡ Asked told) × (new ≡ Some next)
 Acts old (Open (Serve port count)) answer new = (answer ≡ Usage) × (new ≡ old)
 
--- What a line is answered. Memory may be wanting to read it.
+-- What a line is answered. Memory may run out as it is read.
 abbrev pub LineAnswers : Option DeskState → Option Action → LineAnswer → Option DeskState → Type 0
 LineAnswers old None answer new = ((answer ≡ Usage) ⊎ (answer ≡ Asked (Refused Memory))) × (new ≡ old)
 LineAnswers old (Some action) answer new = Acts old action answer new ⊎ ((answer ≡ Asked (Refused Memory)) × (new ≡ old))

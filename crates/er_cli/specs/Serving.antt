@@ -79,7 +79,7 @@ GetDue Represented count (Some inputs) None old session new = Unit {0}
 GetDue Represented count (Some inputs) (Some gots) old session new =
     (came rest : List (List ℕ)) × (inputs ≡ came ++ rest) × (length came ≡ count) × GetEach Represented old came gots session new
 
--- Clients were served. Or nobody was listened to: the port can't be had, or memory was wanting.
+-- Clients were served. Or nobody was listened to: the port can't be had, or memory ran out.
 abbrev pub ServesClients : (Represented : Type 0) → Printed → (port count : ℕ) → (coming : Option (List (List ℕ))) → (got : Option (List Got)) → DeskState
     → Session → DeskState → Type 0
 ServesClients Represented p port count coming got old session new =

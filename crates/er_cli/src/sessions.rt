@@ -52,7 +52,7 @@ fn let_go<D: Disk + Drop>(
     }
 }
 
-/// Asks the desk one thing after the other. The answers are reserved first, so that want of memory for them leaves all as it was.
+/// Asks the desk one thing after the other. The answers are reserved first, so that all stays as it was if memory runs out for them.
 fn ask_all<S: Alter>(
     alloc: Global,
     desk: &mut Desk<S>,

@@ -145,7 +145,7 @@ Reads passing old result new =
     ⊎ (IsFalse old.needs_reopen × (new ≡ record old { needs_reopen = true }) × (why : Refusal) × IsReadFault why × (result ≡ Err why))
     ⊎ (IsTrue old.needs_reopen × (new ≡ old) × (result ≡ Err NeedsReopen))
 
--- of standings, for which memory may be wanting beside the store
+-- of standings, for which memory may run out outside the store
 abbrev pub ReadsRows : {A : Type 0} → DeskState → Result A Refusal → DeskState → Type 0
 ReadsRows old result new = Reads Memory old result new
 

@@ -314,7 +314,7 @@ impl<S: Alter> Desk<S> {
         self.take(alloc, &command)
     }
 
-    /// Takes commands one after the other. The replies are reserved first, so that want of memory for them leaves all as it was.
+    /// Takes commands one after the other. The replies are reserved first, so that all stays as it was if memory runs out for them.
     pub fn run(&mut self, alloc: Global, commands: Vec<Command>) -> Result<Vec<Reply>, AllocError>
         ensures ran { IfOk result (λ replies. Runs (desk_state self.old) commands.items
             replies.items

@@ -32,7 +32,7 @@ pub enum OpenFault<D: Disk + Drop> {
 }
 
 impl<D: Disk + Drop> OpenFault<D> {
-    /// What it means to a caller. That files were not opened is want of memory, or a fault of the store.
+    /// What it means to a caller. That files were not opened is out of memory, or a fault of the store.
     pub fn refusal(&self) -> Refusal
         ensures value { result ≡ why_of self.now }
     {

@@ -51,7 +51,7 @@ impl<T> From<Vec<T>> for Items<T> {
 }
 
 impl<T: Copy> Items<T> {
-    /// Puts the element at the end. Where memory is wanting, the list stays as it was.
+    /// Puts the element at the end. If memory runs out, the list is unchanged.
     pub fn push(&mut self, element: T) -> Result<(), AllocError>
         ensures ok { OnOk result (self.new ≡ self.old ++ element ∷ []) }
         ensures err { IfErr result (λ _. self.new ≡ self.old) }
@@ -81,7 +81,7 @@ impl<T: Copy> Items<T> {
 }
 
 impl<T: Drop> Items<T> {
-    /// Puts an element that owns memory at the end. Where memory is wanting, the list stays as it was.
+    /// Puts an element that owns memory at the end. If memory runs out, the list is unchanged.
     pub(crate) fn append(&mut self, element: T) -> Result<(), AllocError>
         ensures ok { OnOk result (self.new ≡ self.old ++ element ∷ []) }
         ensures err { IfErr result (λ _. self.new ≡ self.old) }

@@ -24,7 +24,7 @@ pub enum PairFault {
     /// The search would take more than these steps.
     #[error("no pairing was found in {steps} steps")]
     Budget { steps: u32 },
-    /// Memory is wanting.
+    /// Memory ran out.
     #[error("out of memory")]
     Memory,
 }

@@ -70,7 +70,7 @@ fault_answer TooLarge = json_answer 413 (codes "{\"error\":\"body too large\"}")
 
 -- ---- after it
 
--- no such match: 404; want of memory, a fault of the store, a store that needs reopening: 503; else 409
+-- no such match: 404; out of memory, a fault of the store, a store that needs reopening: 503; else 409
 abbrev pub status_of : Refusal → ℕ
 status_of NoSuchMatch = 404
 status_of Memory = 503

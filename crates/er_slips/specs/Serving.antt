@@ -44,7 +44,7 @@ abbrev pub IsServed : Type 0 → Option (List ℕ) → DeskState → AnswerValue
 IsServed Represented input old answer session new =
     (asked : Result Request Fault) × IfSome input (λ xs. IsRequest xs asked) × AnswersRequest Represented old asked answer session new
 
--- or memory was wanting for a body, before the desk was asked, and it stays as it is
+-- or memory ran out for a body, before the desk was asked, and it stays as it is
 abbrev pub IsUnserved : Option (List ℕ) → DeskState → AnswerValue → Session → DeskState → Type 0
 IsUnserved input old answer session new =
     (answer ≡ refusal_answer Memory) × IfSome input (λ xs. (round table n : ℕ) × IsWholeRequest xs (Body round table n))

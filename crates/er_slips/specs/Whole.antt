@@ -54,7 +54,7 @@ OneAnswer = (event : EventValue) (serial : ℕ) (input : List ℕ) (one other : 
     → IsSoundButForSeeds event → IsAnswer event serial input one submits → IsAnswer event serial input other also
     → (one ≡ other) × (submits ≡ also)
 
--- The answer to the input on this event, and else a 503 that names why, to the byte: memory was wanting, or the store has a fault. So is
+-- The answer to the input on this event, and else a 503 that names why, to the byte: memory ran out, or the store has a fault. So is
 -- answered only a head that passes each check, with the whole of its body: a 400 for a head or a length, a 404, a 405 and a 413 are
 -- always answered.
 abbrev pub IsAnswerUnless503 : EventValue → ℕ → List ℕ → AnswerValue → Type 0

@@ -26,7 +26,7 @@ pub enum Served {
     WriteFault { sent: usize },
 }
 
-/// The answer, or that memory was wanting for it.
+/// The answer, or that memory ran out for it.
 fn answer_or_memory(answer: Result<Answer, AllocError>) -> Answer
     ensures { MatchResult answer (λ made. answer_value result
         ≡ answer_value made) (λ _. answer_value result ≡ refusal_answer Refusal.Memory) }

@@ -16,6 +16,6 @@ names_of = map (λ line. line.name)
 abbrev pub additions_text : Additions → List ℕ
 additions_text additions = codes "added " ++ (decimal additions.added ++ (codes " already " ++ (decimal additions.already ++ (10 ∷ []))))
 
--- Memory is wanting for a list, or it is taken.
+-- Memory runs out for a list, or it is taken.
 abbrev pub ImportsList : Printed → List ℕ → DeskState → Session → DeskState → Type 0
 ImportsList p list old session new = (EnrolsNobody old session new × Tells (Refused Memory) p) ⊎ TakesList p list old session new

@@ -13,7 +13,7 @@ use Rattle.er_desk.specs.Desk.{IsStoredAt, HoldsOwnEvent, desk_state, placed_of,
 use Rattle.er_desk.specs.Headline.{RecoversJust}
 use Rattle.er_desk.specs.Reply.{Reply}
 
--- With a receipt, file and memory have the event after the change. For want of memory beside the store all stays as it was, and
+-- With a receipt, file and memory have the event after the change. If memory runs out outside the store, all stays as it was, and
 -- a fault of the store stops the desk.
 pub record TakesChange {S : Type 0} (g : Ghosts S) (old : Desk S g) (change : Change) (reply : Reply) (new : Desk S g) : Type 0 where
   pub taken : IfOk reply (λ receipt. (desk_state new

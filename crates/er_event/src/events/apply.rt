@@ -133,7 +133,7 @@ impl Event {
         self
     }
 
-    /// The event after the change. Where memory is wanting, the event comes back as it was: that is only where the change takes some.
+    /// Returns the event after the change, or the event as it was if memory runs out, which is only if the change takes some.
     pub fn apply(self, alloc: Global, change: &Change) -> Result<Event, (Event, AllocError)>
         requires { Fits self change.now }
         ensures ok { IfOk result (λ e. e ≡ after self change.now) }
