@@ -25,12 +25,12 @@ module _ {S : Type 0} (g : Ghosts S) (old : Desk S g) (passing : Refusal)
       → ReadsTables g passing old read new
   reads_tables new read runs same is does still = record {
     turn = subst (Reads passing (desk_state old) read) (sym is)
-        (reads passing (desk_state old) (version_in new) (desk_state new).needs_reopen read runs does.version (does.stops runs));
-    asked = read_asks g old new _ read runs same does.version (does.stops runs) does.clean still does.kept does.crash left;
+        (reads passing (desk_state old) (version_in new) (desk_state new).needs_reopen read runs does.version (does.as_call.stops runs));
+    asked = read_asks g old new _ read runs same does.version (does.as_call.stops runs) does.as_call.call.clean still does.as_call.call.kept does.crash left;
     same = still;
-    left = leaves_all (state g old) (state g new) settled does.clean does.crash
-        (λ clean. read_keeps _ read (desk_state new).needs_reopen (state g old) (state g new) (does.stops runs) (still clean)
-        (does.kept clean));
+    left = leaves_all (state g old) (state g new) settled does.as_call.call.clean does.crash
+        (λ clean. read_keeps _ read (desk_state new).needs_reopen (state g old) (state g new) (does.as_call.stops runs) (still clean)
+        (does.as_call.call.kept clean));
   }
 
   -- of one that was stopped
@@ -75,31 +75,37 @@ module _ {S : Type 0} (g : Ghosts S) (a b : Store S g) (runs : IsFalse (tables.n
   pub reads_on : {A B : Type 0} {Fails More : Refusal → Bool → Type 0} (c : Store S g) (x : A) (r : Result B Refusal)
       → OnlyReads g Fails a (Ok x) b → OnlyReads g More b r c → OnlyReads g More a r c
   reads_on c x r one two = record {
-    waits = λ stopped. absurd (true≢false (sym stopped ∙ runs));
-    stops = λ runs. two.stops (one.stops runs);
+    as_call = record {
+      call = record {
+        clean = λ clean. one.as_call.call.clean (two.as_call.call.clean clean);
+        limit = two.as_call.call.limit ∙ one.as_call.call.limit;
+        kept = λ clean. err_weaker r
+            (keeps_after (tables.store_state g a) (tables.store_state g b) (tables.store_state g c)
+            (one.same (two.as_call.call.clean clean)))
+            (two.as_call.call.kept clean);
+      };
+      waits = λ stopped. absurd (true≢false (sym stopped ∙ runs));
+      stops = λ runs. two.as_call.stops (one.as_call.stops runs);
+    };
     version = two.version ∙ one.version;
-    limit = two.limit ∙ one.limit;
-    clean = λ clean. one.clean (two.clean clean);
     same = λ clean. ok_weaker r
-        (unchanged_then (tables.store_state g a) (tables.store_state g b) (tables.store_state g c) (one.same (two.clean clean)))
+        (unchanged_then (tables.store_state g a) (tables.store_state g b) (tables.store_state g c)
+        (one.same (two.as_call.call.clean clean)))
         (two.same clean);
-    kept = λ clean. err_weaker r
-        (keeps_after (tables.store_state g a) (tables.store_state g b) (tables.store_state g c) (one.same (two.clean clean)))
-        (two.kept clean);
-    crash = λ clean trees may. one.crash (two.clean clean) trees (two.crash clean trees may);
+    crash = λ clean trees may. one.crash (two.as_call.call.clean clean) trees (two.crash clean trees may);
   }
 
   -- it was refused
   pub reads_failed : {A B : Type 0} (passing why : Refusal) → OnlyReads {A = A} g StopsByReadFault a (Err why) b
       → OnlyReads {A = B} g (StopsUnless passing) a (Err why) b
   reads_failed passing why one = record {
-    waits = λ stopped. absurd (true≢false (sym stopped ∙ runs));
-    stops = λ runs. inr (one.stops runs);
+    as_call = record {
+      call = record { clean = one.as_call.call.clean; limit = one.as_call.call.limit; kept = one.as_call.call.kept };
+      waits = λ stopped. absurd (true≢false (sym stopped ∙ runs));
+      stops = λ runs. inr (one.as_call.stops runs);
+    };
     version = one.version;
-    limit = one.limit;
-    clean = one.clean;
     same = λ clean. tt;
-    kept = one.kept;
     crash = one.crash;
   }
 
@@ -107,13 +113,13 @@ module _ {S : Type 0} (g : Ghosts S) (a b : Store S g) (runs : IsFalse (tables.n
   pub reads_well : {A B : Type 0} {Fails : Refusal → Bool → Type 0} (passing : Refusal) (x : A) (y : B)
       → OnlyReads g Fails a (Ok x) b → OnlyReads g (StopsUnless passing) a (Ok y) b
   reads_well passing x y one = record {
-    waits = λ stopped. absurd (true≢false (sym stopped ∙ runs));
-    stops = one.stops;
+    as_call = record {
+      call = record { clean = one.as_call.call.clean; limit = one.as_call.call.limit; kept = λ clean. tt };
+      waits = λ stopped. absurd (true≢false (sym stopped ∙ runs));
+      stops = one.as_call.stops;
+    };
     version = one.version;
-    limit = one.limit;
-    clean = one.clean;
     same = one.same;
-    kept = λ clean. tt;
     crash = one.crash;
   }
 
@@ -121,13 +127,17 @@ module _ {S : Type 0} (g : Ghosts S) (a b : Store S g) (runs : IsFalse (tables.n
   pub reads_passing : {A B : Type 0} {Fails : Refusal → Bool → Type 0} (passing : Refusal) (x : A)
       → OnlyReads g Fails a (Ok x) b → OnlyReads {A = B} g (StopsUnless passing) a (Err passing) b
   reads_passing passing x one = record {
-    waits = λ stopped. absurd (true≢false (sym stopped ∙ runs));
-    stops = λ runs. inl (refl, one.stops runs);
+    as_call = record {
+      call = record {
+        clean = one.as_call.call.clean;
+        limit = one.as_call.call.limit;
+        kept = λ clean. unchanged_keeps (tables.store_state g a) (tables.store_state g b) (one.same clean);
+      };
+      waits = λ stopped. absurd (true≢false (sym stopped ∙ runs));
+      stops = λ runs. inl (refl, one.as_call.stops runs);
+    };
     version = one.version;
-    limit = one.limit;
-    clean = one.clean;
     same = λ clean. tt;
-    kept = λ clean. unchanged_keeps (tables.store_state g a) (tables.store_state g b) (one.same clean);
     crash = one.crash;
   }
 
@@ -140,13 +150,18 @@ module _ {S : Type 0} (g : Ghosts S) (a b : Store S g) (runs : IsFalse (tables.n
       let then : HasCleanDisk (tables.store_state g c) → HasCleanDisk (tables.store_state g b) =
       subst (λ (h : Held S). HasCleanDisk (sqlite.state g h)) same in
       record {
-        waits = λ stopped. absurd (true≢false (sym stopped ∙ runs));
-        stops = λ runs. inr (fault, stopped);
+        as_call = record {
+          call = record {
+            clean = λ clean. one.as_call.call.clean (then clean);
+            limit = subst (λ (h : Held S). (sqlite.state g h).step_limit ≡ (tables.store_state g a).step_limit) (sym same)
+                one.as_call.call.limit;
+            kept = λ clean. subst (λ (h : Held S). KeepsTables (tables.store_state g a) (sqlite.state g h)) (sym same)
+                (unchanged_keeps (tables.store_state g a) (tables.store_state g b) (one.same (then clean)));
+          };
+          waits = λ stopped. absurd (true≢false (sym stopped ∙ runs));
+          stops = λ runs. inr (fault, stopped);
+        };
         version = version ∙ one.version;
-        limit = subst (λ (h : Held S). (sqlite.state g h).step_limit ≡ (tables.store_state g a).step_limit) (sym same) one.limit;
-        clean = λ clean. one.clean (then clean);
         same = λ clean. tt;
-        kept = λ clean. subst (λ (h : Held S). KeepsTables (tables.store_state g a) (sqlite.state g h)) (sym same)
-            (unchanged_keeps (tables.store_state g a) (tables.store_state g b) (one.same (then clean)));
         crash = subst (λ (h : Held S). AfterCrash (sqlite.state g h) (tables.store_state g a).may_leave) (sym same) one.crash;
       }

@@ -2,10 +2,11 @@
 use Rattle.er_store.proofs.Prelude.{◌∙◌, ◌≡◌, refl, subst, sym, true, false, Held, Ghosts, Result, Ok, Err, IsErrAnd, IsTrue, state}
 use Rattle.er_store.proofs.Prelude.{on_ok_weaker, unchanged_then, Error, HasCleanDisk, Trees, KeepsTables}
 use Rattle.std.proofs.Common.{OnOk, OnErr, IfErr}
-use Rattle.sqlite.specs.{State.{IsRolledBack, KeepsCommit, Survives}, Steps.FailsToCommit}
+use Rattle.sqlite.specs.{State.{State, IsRolledBack, KeepsCommit, Survives}, Steps.FailsToCommit}
 use Rattle.sqlite.specs.declared.transaction.Transaction.{Transaction}
 use Rattle.er_store.proofs.Crash.{stays_self, stays_then, survives_both, was_clean, dropped_keeps, uncommitted_keeps}
 use Rattle.er_store.proofs.LoadLemmas.{all_ok, all_err, unchanged_keeps, then_keeps}
+use Rattle.er_store.specs.Calls.{Call}
 use Rattle.er_store.specs.inside.{Steps.Stays, Within.{tx_state, Lends}, Looking.{OnlyLooks, Transacts}}
 
 pub lends_self : {S : Type 0} (g : Ghosts S) (tx : Transaction S) → Lends g tx tx
@@ -29,7 +30,7 @@ on_ok_later P Q (Ok a) f = f
 on_ok_later P Q (Err e) f = tt
 
 -- one look after another
-pub looks_on : {S A B E : Type 0} {g : Ghosts S} {a b c : Held S} {x : A} {r : Result B E}
+pub looks_on : {S A B E F : Type 0} {g : Ghosts S} {a b c : Held S} {x : A} {r : Result B F}
     → OnlyLooks {A = A} {E = E} g a (Ok x) b → OnlyLooks g b r c → OnlyLooks g a r c
 looks_on {g = g} {a} {b} {c} {r = r} one two = record {
   mode = λ outside. two.mode (one.mode outside);
@@ -63,6 +64,19 @@ looks_fail r why is look = record {
   survives = look.survives;
 }
 
+-- what a look says as a call that gives back its answer, or its refusal, in other words
+pub looks_call : {S A E B F : Type 0} {g : Ghosts S} {a b : Held S} {r : Result A E} (q : Result B F) → OnlyLooks g a r b
+    → (HasCleanDisk (state g b) → OnErr q (KeepsTables (state g a) (state g b))) → Call (state g a) q (state g b)
+looks_call q look kept = record {
+  clean = λ clean. was_clean look.survives clean;
+  limit = look.survives.limit;
+  kept = kept;
+}
+
+-- what a call that went well says of one that gives back something else
+pub still_ok : {A E B F : Type 0} {old new : State} {x : A} {y : B} → Call {A = A} {E = E} old (Ok x) new → Call {A = B} {E = F} old (Ok y) new
+still_ok call = record { clean = call.clean; limit = call.limit; kept = λ clean. tt }
+
 -- ---- a transaction was begun on a connection that is lent, and one step was done in it
 
 module _ {S A : Type 0} (g : Ghosts S) (old begun last end conn : Held S) (P : Trees → Type 0) (r : Result A Error)
@@ -80,9 +94,11 @@ module _ {S A : Type 0} (g : Ghosts S) (old begun last end conn : Held S) (P : T
   keeps : (HasCleanDisk (state g end) → OnErr r (KeepsTables (state g old) (state g end))) → Transacts g old r conn
   keeps kept = record {
     mode = mode;
-    limit = subst (λ (h : Held S). (state g h).step_limit ≡ (state g old).step_limit) same (survives.limit ∙ step.survives.limit);
-    clean = cleaned;
-    kept = λ clean. subst (λ (h : Held S). OnErr r (KeepsTables (state g old) (state g h))) same (kept (late clean));
+    call = record {
+      clean = cleaned;
+      limit = subst (λ (h : Held S). (state g h).step_limit ≡ (state g old).step_limit) same (survives.limit ∙ step.survives.limit);
+      kept = λ clean. subst (λ (h : Held S). OnErr r (KeepsTables (state g old) (state g h))) same (kept (late clean));
+    };
   }
 
   -- it was dropped

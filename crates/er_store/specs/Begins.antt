@@ -1,5 +1,5 @@
 -- How a store begins: over tables that are made, or over those that are there.
-use Rattle.std.specs.Prelude.{◌≡◌, ◌≢◌, ◌⊎◌, ◌≤◌, ℕ, false, Result, MatchResult, IsFalse}
+use Rattle.std.specs.Prelude.{◌≡◌, ◌≢◌, ◌⊎◌, ◌≤◌, ℕ, false, Result, Ok, Err, MatchResult, IsFalse}
 use Rattle.sqlite.specs.Schema.{Schema}
 use Rattle.sqlite.specs.State.{State, HasCleanDisk, IsUnchanged}
 use Rattle.sqlite.specs.Held as sqlite
@@ -17,7 +17,7 @@ use Rattle.er_store.specs.Beside.{HoldsBeside, IsStoredBeside, NoneAwaitsFive}
 use Rattle.er_store.specs.Damage.{ReadsParts, ReadsTallies, IsAtFault, IfDamaged}
 use Rattle.er_store.specs.Fault.{IsFault, IsLoadFault}
 use Rattle.er_store.specs.Loading.{HoldsEvent}
-use Rattle.er_store.specs.Reading.{KeepsTables}
+use Rattle.er_store.specs.Calls.{Call}
 use Rattle.er_store.specs.Representing.{HasTables, AreKeyed, Represents, RepresentsIn, IsStoredIn, RepresentsNow, AfterCrash, Either}
 use Rattle.er_store.specs.Representing.{CanRead}
 use Rattle.er_store.specs.Representing.{ReadsEvent}
@@ -28,6 +28,11 @@ use Rattle.er_store.specs.Tables.{no_schema, players_of, player_tree, tally_sche
 abbrev pub held_state : {S : Type 0} (g : Ghosts S) → Held S → State
 held_state g conn = sqlite.state g conn
 
+-- what the connection shows then: it is in what was made of it, or comes back with the refusal
+abbrev pub left_state : {S A : Type 0} (g : Ghosts S) → (A → State) → Result A (Held S × Refusal) → State
+left_state g shown (Ok a) = shown a
+left_state g shown (Err back) = held_state g back.0
+
 -- the five tables of this version and no other, with no index or view of others
 abbrev pub alone_schema : ℕ → Schema
 alone_schema version = tally_schema (players_of version player_tree)
@@ -36,8 +41,6 @@ alone_schema version = tally_schema (players_of version player_tree)
 pub record IsCreated {S : Type 0} (g : Ghosts S) (v : ℕ) (e : EventValue) (old : State) (made : Store S g) : Type 0 where
   pub ready : IsFalse (needs_reopen made)
   pub version : store_version made ≡ v
-  pub limit : (store_state g made).step_limit ≡ old.step_limit
-  pub clean : HasCleanDisk (store_state g made) → HasCleanDisk old
   -- nothing called `event` could be read before, and no tables of an event stood there
   pub absent : HasCleanDisk (store_state g made)
       → (CanRead old.now.schema → ⊥)
@@ -55,16 +58,13 @@ pub record IsCreated {S : Type 0} (g : Ghosts S) (v : ℕ) (e : EventValue) (old
 pub record IsNotCreated {S : Type 0} (g : Ghosts S) (v : ℕ) (e : EventValue) (old : State) (left : Held S × Refusal)
     : Type 0 where
   pub mode : left.0.in_transaction ≡ false
-  pub limit : (held_state g left.0).step_limit ≡ old.step_limit
-  pub clean : HasCleanDisk (held_state g left.0) → HasCleanDisk old
   pub why : (left.1 ≡ EventExists) ⊎ IsFault left.1
   -- something called `event` can be read, and nothing is made there
   pub exists : left.1 ≡ EventExists → HasCleanDisk (held_state g left.0)
       → CanRead old.now.schema
       × (old.now.schema ≢ no_schema)
       × IsUnchanged old (held_state g left.0)
-  -- no table changes, and where `event` can be read a crash then leaves what it could before
-  pub kept : HasCleanDisk (held_state g left.0) → KeepsTables old (held_state g left.0)
+  -- where `event` can be read, a crash leaves what it could before
   pub spares : CanRead old.now.schema → AfterCrash (held_state g left.0) old.may_leave
   -- else it may leave the new event whole too
   pub crash : NoneAwaitsFive v old.now.schema
@@ -73,18 +73,16 @@ pub record IsNotCreated {S : Type 0} (g : Ghosts S) (v : ℕ) (e : EventValue) (
       (Either old.may_leave (IsStoredBeside v e old.now))
 
 -- A creation: the tables are made in this version, or the connection comes back.
-abbrev pub Creates : {S : Type 0} (g : Ghosts S) (version : ℕ) → EventValue → Held S
-    → Result (Store S g) (Held S × Refusal) → Type 0
-Creates g version e conn result =
-    MatchResult result (IsCreated g version e (held_state g conn)) (IsNotCreated g version e (held_state g conn))
+pub record Creates {S : Type 0} (g : Ghosts S) (version : ℕ) (e : EventValue) (conn : Held S) (result : Result (Store S g) (Held S × Refusal))
+    : Type 0 where
+  pub call : Call (held_state g conn) result (left_state g (λ made. store_state g made) result)
+  pub made : MatchResult result (IsCreated g version e (held_state g conn)) (IsNotCreated g version e (held_state g conn))
 
 -- What the tables show was taken over, in the version that the event's row says: a store, the event and its serial.
 pub record IsAdopted {S : Type 0} (g : Ghosts S) (old : State) (it : Store S g × EventValue × ℕ) : Type 0 where
   pub ready : IsFalse (needs_reopen it.0)
   pub low : it.2 ≤ MAX_SERIAL
   pub sound : IsSoundButForSeeds it.1
-  pub limit : (store_state g it.0).step_limit ≡ old.step_limit
-  pub clean : HasCleanDisk (store_state g it.0) → HasCleanDisk old
   -- nothing is written, and a crash leaves what it could before
   pub same : HasCleanDisk (store_state g it.0) → IsUnchanged old (store_state g it.0)
   pub crash : AfterCrash (store_state g it.0) old.may_leave
@@ -108,8 +106,6 @@ pub record IsAdopted {S : Type 0} (g : Ghosts S) (old : State) (it : Store S g �
 -- It was not, and the connection comes back.
 pub record IsNotAdopted {S : Type 0} (g : Ghosts S) (old : State) (left : Held S × Refusal) : Type 0 where
   pub mode : left.0.in_transaction ≡ false
-  pub limit : (held_state g left.0).step_limit ≡ old.step_limit
-  pub clean : HasCleanDisk (held_state g left.0) → HasCleanDisk old
   pub why : (left.1 ≡ NoEvent) ⊎ IsLoadFault left.1
   -- where the event's rows can be read, there is an event
   pub no_event : left.1 ≡ NoEvent → HasCleanDisk (held_state g left.0) → ReadsEvent old.now.schema → ⊥
@@ -119,10 +115,10 @@ pub record IsNotAdopted {S : Type 0} (g : Ghosts S) (old : State) (left : Held S
   -- of tables that represent a sound event, memory or the store fails
   pub fails : HasCleanDisk (held_state g left.0) → (e : EventValue) (s : ℕ) → Represents old.now e s
       → IsSoundButForSeeds e → IsFault left.1
-  -- no table changes, and a crash leaves what it could before
-  pub kept : HasCleanDisk (held_state g left.0) → KeepsTables old (held_state g left.0)
+  -- a crash leaves what it could before
   pub crash : AfterCrash (held_state g left.0) old.may_leave
 
 -- An opening: the event is found, or the connection comes back.
-abbrev pub Adopts : {S : Type 0} (g : Ghosts S) → Held S → Result (Store S g × EventValue × ℕ) (Held S × Refusal) → Type 0
-Adopts g conn result = MatchResult result (IsAdopted g (held_state g conn)) (IsNotAdopted g (held_state g conn))
+pub record Adopts {S : Type 0} (g : Ghosts S) (conn : Held S) (result : Result (Store S g × EventValue × ℕ) (Held S × Refusal)) : Type 0 where
+  pub call : Call (held_state g conn) result (left_state g (λ it. store_state g it.0) result)
+  pub found : MatchResult result (IsAdopted g (held_state g conn)) (IsNotAdopted g (held_state g conn))

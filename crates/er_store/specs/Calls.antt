@@ -1,7 +1,7 @@
 -- What a call of a store does: how it ends, what it finds, and what it leaves of the tables.
 use Rattle.std.specs.Prelude.{◌≡◌, ◌+◌, ◌⊎◌, ℕ, Bool, Result, Err, OnOk, OnErr, MatchResult, IsTrue, IsFalse}
 use Rattle.sqlite.specs.Effect.{Database}
-use Rattle.sqlite.specs.State.{HasCleanDisk, IsUnchanged}
+use Rattle.sqlite.specs.State.{State, HasCleanDisk, IsUnchanged}
 use Rattle.sqlite_trees.specs.declared.store.Store.{Ghosts}
 use Rattle.er_event.specs.Event.{EventValue}
 use Rattle.er_event.specs.Sound.{IsSoundButForSeeds}
@@ -27,22 +27,32 @@ StopsByReadFault why needs_reopen = IsReadFault why × IsTrue needs_reopen
 abbrev pub StopsUnless : (passing : Refusal) → (why : Refusal) → (needs_reopen : Bool) → Type 0
 StopsUnless passing why needs_reopen = ((why ≡ passing) × IsFalse needs_reopen) ⊎ (IsReadFault why × IsTrue needs_reopen)
 
--- A call that only reads. A store that has stopped asks for reopening, and stays as it is. Of one that runs, an answer leaves
--- it running, and a refusal is one of these. Whatever the tables hold, nothing is written.
-pub record OnlyReads {S A : Type 0} (g : Ghosts S) (Stops : Refusal → Bool → Type 0)
+-- What a call says of the connection that it uses, whatever the tables hold.
+pub record Call {A E : Type 0} (old : State) (result : Result A E) (new : State) : Type 0 where
+  -- the disk was clean if it is
+  pub clean : HasCleanDisk new → HasCleanDisk old
+  -- the connection's limit on steps stays: what it cuts off later was cut off before
+  pub limit : new.step_limit ≡ old.step_limit
+  -- a refusal changes no table
+  pub kept : HasCleanDisk new → OnErr result (KeepsTables old new)
+
+-- A call of a store. One that has stopped asks for reopening, and stays as it is. Of one that runs, an answer leaves it running,
+-- and a refusal is one of these.
+pub record StoreCall {S A : Type 0} (g : Ghosts S) (Stops : Refusal → Bool → Type 0)
     (old : Store S g) (result : Result A Refusal) (new : Store S g)
     : Type 0 where
+  pub call : Call (store_state g old) result (store_state g new)
   pub waits : IsTrue (needs_reopen old) → (result ≡ Err NeedsReopen) × (new ≡ old)
   pub stops : IsFalse (needs_reopen old)
       → MatchResult result (λ _. IsFalse (needs_reopen new)) (λ why. Stops why (needs_reopen new))
+
+-- A call that only reads: whatever the tables hold, nothing is written.
+pub record OnlyReads {S A : Type 0} (g : Ghosts S) (Stops : Refusal → Bool → Type 0)
+    (old : Store S g) (result : Result A Refusal) (new : Store S g)
+    : Type 0 where
+  pub as_call : StoreCall g Stops old result new
   pub version : store_version new ≡ store_version old
-  -- the connection's limit on steps stays: a read that it cuts off later was cut off before
-  pub limit : (store_state g new).step_limit ≡ (store_state g old).step_limit
-  -- the disk was clean if it is
-  pub clean : HasCleanDisk (store_state g new) → HasCleanDisk (store_state g old)
-  -- what is answered changes nothing, and a refusal no table
   pub same : HasCleanDisk (store_state g new) → OnOk result (IsUnchanged (store_state g old) (store_state g new))
-  pub kept : HasCleanDisk (store_state g new) → OnErr result (KeepsTables (store_state g old) (store_state g new))
   pub crash : AfterCrash (store_state g new) (store_state g old).may_leave
 
 -- this is found, or memory or the store fails
@@ -60,14 +70,8 @@ Finds g See Answers old result new =
 pub record WritesChange {S : Type 0} (g : Ghosts S) (e next : EventValue) (serial : ℕ)
     (old : Store S g) (result : Result (Unit {0}) Refusal) (new : Store S g)
     : Type 0 where
-  pub waits : IsTrue (needs_reopen old) → (result ≡ Err NeedsReopen) × (new ≡ old)
-  pub stops : IsFalse (needs_reopen old)
-      → MatchResult result (λ _. IsFalse (needs_reopen new)) (λ why. StopsByFault why (needs_reopen new))
+  pub as_call : StoreCall g StopsByFault old result new
   pub version : store_version new ≡ store_version old
-  pub limit : (store_state g new).step_limit ≡ (store_state g old).step_limit
-  pub clean : HasCleanDisk (store_state g new) → HasCleanDisk (store_state g old)
-  -- a refusal changes no table, whatever the tables hold
-  pub kept : HasCleanDisk (store_state g new) → OnErr result (KeepsTables (store_state g old) (store_state g new))
   -- at every exit the other tables stay, as long as the connection shows any
   pub others : HasCleanDisk (store_state g new) → RepresentsNow (store_version old) (store_state g old) e serial
       → IsTrue (store_state g new).is_open

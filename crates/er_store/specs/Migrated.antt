@@ -1,5 +1,5 @@
 -- What a migration promises.
-use Rattle.std.specs.Prelude.{◌≡◌, ◌⊎◌, ℕ, [], ◌∷◌, Bool, true, IsTrue, IsFalse, IsErr, OnOk, OnErr, Result, Ok, Err, codes}
+use Rattle.std.specs.Prelude.{◌≡◌, ◌⊎◌, ℕ, [], ◌∷◌, IsTrue, IsFalse, IsOk, IsErr, OnOk, MatchResult, Result, codes}
 use Rattle.std.specs.List.{AllByRecursion}
 use Rattle.sqlite_catalog.specs.Change.{is_used}
 use Rattle.sqlite_rules.specs.Lists.{Has}
@@ -12,12 +12,10 @@ use Rattle.sqlite_trees.specs.declared.store.Store.{Ghosts}
 use Rattle.er_event.specs.Event.{EventValue}
 use Rattle.er_event.specs.declared.refusals.Place.TheVariants.{PlayerTable}
 use Rattle.er_event.specs.declared.refusals.Refusal.{Refusal}
-use Rattle.er_event.specs.declared.refusals.Refusal.TheVariants.{NeedsReopen}
 use Rattle.er_store.specs.declared.Store.{Store}
-use Rattle.er_store.specs.Fault.{IsFault}
+use Rattle.er_store.specs.Calls.{StoreCall, StopsByFault}
 use Rattle.er_store.specs.Beside.{NoneAwaits, StandsFirst}
 use Rattle.er_store.specs.Layout.{Layout}
-use Rattle.er_store.specs.Reading.{KeepsTables}
 use Rattle.er_store.specs.Representing.{HasTablesAt, IsOther, IsStoredIn, RepresentsNow, AfterCrash}
 use Rattle.er_store.specs.Store.{store_state, store_version, needs_reopen}
 
@@ -50,32 +48,15 @@ IsTaken db = IsTrue (is_used db.schema (codes "player2"))
 abbrev pub IsStoredWhole : EventValue → ℕ → Trees → Type 0
 IsStoredWhole e serial trees = IsStoredIn 1 e serial trees ⊎ IsStoredIn 2 e serial trees
 
--- the version that a store works in, and whether it has stopped
-pub record StoreStatus : Type 0 where
-  pub version : ℕ
-  pub needs_reopen : Bool
-
-abbrev pub store_status : {S : Type 0} {g : Ghosts S} → Store S g → StoreStatus
-store_status store = record { version = store_version store; needs_reopen = needs_reopen store }
-
--- what one call of `migrate` answers, and how the store works then
-abbrev pub MigratesStore : StoreStatus → Result (Unit {0}) Refusal → StoreStatus → Type 0
-MigratesStore old (Ok done) new = IsFalse old.needs_reopen × IsFalse new.needs_reopen × (new.version ≡ 2)
-MigratesStore old (Err why) new =
-    (IsTrue old.needs_reopen × (why ≡ NeedsReopen) × (new ≡ old))
-    ⊎ (IsFalse old.needs_reopen × (old.version ≡ 1) × IsFault why × (new ≡ record old { needs_reopen = true }))
-
 -- The tables of the event are moved to version 2, in one transaction. The serial is the event's, and stays.
 pub record MovesTables {S : Type 0} (g : Ghosts S) (e : EventValue) (serial : ℕ)
     (old : Store S g) (result : Result (Unit {0}) Refusal) (new : Store S g)
     : Type 0 where
-  pub turn : MigratesStore (store_status old) result (store_status new)
-  -- a store that has stopped, or whose tables are of version 2, stays as it is
-  pub waits : IsTrue (needs_reopen old) ⊎ (store_version old ≡ 2) → new ≡ old
-  pub limit : (store_state g new).step_limit ≡ (store_state g old).step_limit
-  pub clean : HasCleanDisk (store_state g new) → HasCleanDisk (store_state g old)
-  -- a refusal changes no table, whatever the tables hold
-  pub kept : HasCleanDisk (store_state g new) → OnErr result (KeepsTables (store_state g old) (store_state g new))
+  pub as_call : StoreCall g StopsByFault old result new
+  -- with `Ok` it is version 2, and a refusal leaves the version that was
+  pub version : MatchResult result (λ _. store_version new ≡ 2) (λ _. store_version new ≡ store_version old)
+  -- a store of version 2 that runs is answered `Ok`, and stays as it is
+  pub second : IsFalse (needs_reopen old) → store_version old ≡ 2 → IsOk result × (new ≡ old)
   -- it is refused where the name `player2` is taken, and a crash then leaves version 1
   pub taken : IsFalse (needs_reopen old) → store_version old ≡ 1 → HasCleanDisk (store_state g new) → IsTaken (store_state g old).now
       → IsErr result × (RepresentsNow 1 (store_state g old) e serial → AfterCrash (store_state g new) (IsStoredIn 1 e serial))

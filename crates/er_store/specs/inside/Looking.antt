@@ -7,6 +7,7 @@ use Rattle.sqlite.specs.declared.error.Error.{Error}
 use Rattle.sqlite_trees.specs.declared.store.Store.{Ghosts}
 use Rattle.er_event.specs.Event.{EventValue}
 use Rattle.er_event.specs.Sound.{IsSoundButForSeeds}
+use Rattle.er_store.specs.Calls.{Call}
 use Rattle.er_store.specs.Reading.{out_of_memory, IsReadRefused, KeepsTables}
 
 -- What it finds changes nothing, a refusal changes no table, and a crash leaves what it could before.
@@ -28,9 +29,7 @@ abbrev pub FailsToRead : {S A : Type 0} (g : Ghosts S) → Held S → Result A E
 FailsToRead g old result new =
     IfErr result (λ why. (why ≡ out_of_memory) ⊎ IsReadRefused (state g old) (state g new) why)
 
--- A transaction was tried: none is begun any more, and where it was refused no table has changed.
+-- A transaction was tried: none is begun any more.
 pub record Transacts {S A E : Type 0} (g : Ghosts S) (old : Held S) (result : Result A E) (new : Held S) : Type 0 where
   pub mode : new.in_transaction ≡ false
-  pub limit : (state g new).step_limit ≡ (state g old).step_limit
-  pub clean : HasCleanDisk (state g new) → HasCleanDisk (state g old)
-  pub kept : HasCleanDisk (state g new) → OnErr result (KeepsTables (state g old) (state g new))
+  pub call : Call (state g old) result (state g new)

@@ -29,7 +29,7 @@ returns-in_err-tallies-clause-found g c runs clean e s represents sound =
 
 pub returns-in_err-tallies-clause-same : goal.returns-in_err-tallies-clause-same
 returns-in_err-tallies-clause-same g c clean runs =
-    absurd (true≢false (sym (c.in_err-tallies.ensures.reads.stops c.requires.running).1 ∙ runs))
+    absurd (true≢false (sym (c.in_err-tallies.ensures.reads.as_call.stops c.requires.running).1 ∙ runs))
 
 -- ---- the meetings are not read
 
@@ -42,8 +42,8 @@ returns-in_err-meetings-clause-reads g c =
 
 pub returns-in_err-meetings-clause-found : goal.returns-in_err-meetings-clause-found
 returns-in_err-meetings-clause-found g c runs clean e s represents sound =
-    let early = c.meetings.ensures.reads.clean clean in
-    let running : IsFalse (store.needs_reopen c.tallies.new.self) = c.in_ok-tallies.ensures.reads.stops c.requires.running in
+    let early = c.meetings.ensures.reads.as_call.call.clean clean in
+    let running : IsFalse (store.needs_reopen c.tallies.new.self) = c.in_ok-tallies.ensures.reads.as_call.stops c.requires.running in
     let here = still_represents (store.store_version c.args.store.now) (store.store_state g.S.Store c.args.store.now)
     (store.store_state g.S.Store c.tallies.new.self) e s
     (c.in_ok-tallies.ensures.reads.same early) represents in
@@ -52,7 +52,7 @@ returns-in_err-meetings-clause-found g c runs clean e s represents sound =
 
 pub returns-in_err-meetings-clause-same : goal.returns-in_err-meetings-clause-same
 returns-in_err-meetings-clause-same g c clean runs =
-    let stopped = (c.in_err-meetings.ensures.reads.stops (c.in_ok-tallies.ensures.reads.stops c.requires.running)).1 in
+    let stopped = (c.in_err-meetings.ensures.reads.as_call.stops (c.in_ok-tallies.ensures.reads.as_call.stops c.requires.running)).1 in
     absurd (true≢false (sym stopped ∙ runs))
 
 -- ---- memory is wanting
@@ -107,8 +107,8 @@ pub returns-then-not-branch-clause-found : goal.returns-then-not-branch-clause-f
 returns-then-not-branch-clause-found g c runs clean e s represents sound =
     let late : HasCleanDisk (store.store_state g.S.Store c.meetings.new.self) =
     subst (λ h. HasCleanDisk (sqlite.state g.S.Store h)) c.refuse_rows.ensures.same clean in
-    let early = c.meetings.ensures.reads.clean late in
-    let running : IsFalse (store.needs_reopen c.tallies.new.self) = c.in_ok-tallies.ensures.reads.stops c.requires.running in
+    let early = c.meetings.ensures.reads.as_call.call.clean late in
+    let running : IsFalse (store.needs_reopen c.tallies.new.self) = c.in_ok-tallies.ensures.reads.as_call.stops c.requires.running in
     let here = still_represents (store.store_version c.args.store.now) (store.store_state g.S.Store c.args.store.now)
     (store.store_state g.S.Store c.tallies.new.self) e s
     (c.in_ok-tallies.ensures.reads.same early) represents in
@@ -131,8 +131,8 @@ returns-clause-reads g c =
 
 pub returns-clause-found : goal.returns-clause-found
 returns-clause-found g c runs clean e s represents sound =
-    let early = c.meetings.ensures.reads.clean clean in
-    let running : IsFalse (store.needs_reopen c.tallies.new.self) = c.in_ok-tallies.ensures.reads.stops c.requires.running in
+    let early = c.meetings.ensures.reads.as_call.call.clean clean in
+    let running : IsFalse (store.needs_reopen c.tallies.new.self) = c.in_ok-tallies.ensures.reads.as_call.stops c.requires.running in
     let here = still_represents (store.store_version c.args.store.now) (store.store_state g.S.Store c.args.store.now)
     (store.store_state g.S.Store c.tallies.new.self) e s
     (c.in_ok-tallies.ensures.reads.same early) represents in

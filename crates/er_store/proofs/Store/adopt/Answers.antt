@@ -8,7 +8,8 @@ use Rattle.er_store.specs.{Loading.HoldsEvent, Representing.ReadsEvent}
 use Rattle.er_store.proofs.Prelude.{EventTable}
 use Rattle.er_store.proofs.{Listing.event_listed}
 use Rattle.er_store.proofs.{LoadLemmas.{kept_tables, kept_represents, then_keeps, unchanged_keeps, represents_where}}
-use Rattle.er_store.proofs.Crash.{shows_leaves_in, survives_both, only, was_clean}
+use Rattle.er_store.proofs.Lending.{looks_call, looks_on}
+use Rattle.er_store.proofs.Crash.{shows_leaves_in, survives_both, only}
 use Rattle.er_store.proofs.Store.adopt.Given as given
 use Rattle.er_store.proofs.Store.adopt.Goals as goal
 
@@ -43,34 +44,34 @@ pub returns-in-Ok-false : goal.returns-in-Ok-false
 returns-in-Ok-false g c =
     let look = c.in-Ok-false.ensures in
     record {
-      mode = search rules;
-      limit = look.looks.survives.limit;
-      clean = λ clean. was_clean look.looks.survives clean;
-      why = inl refl;
-      no_event = λ is clean reads. true≢false (sym ((look.found clean).1 reads) ∙ c.in-Ok-false.field-0-test);
-      first = λ clean. search rules;
-      readable = λ clean. search rules;
-      fails = λ clean e s represents sound.
-          let reads = reads_ours represents.0 (state g.S.Store c.args.conn).now.schema represents.1.has.tables in
-          absurd (true≢false (sym ((look.found clean).1 reads) ∙ c.in-Ok-false.field-0-test));
-      kept = λ clean. unchanged_keeps _ _ (look.looks.same clean);
-      crash = λ clean trees may. only (look.looks.survives.crash clean trees may);
+      call = looks_call _ look.looks (λ clean. unchanged_keeps _ _ (look.looks.same clean));
+      found = record {
+        mode = search rules;
+        why = inl refl;
+        no_event = λ is clean reads. true≢false (sym ((look.found clean).1 reads) ∙ c.in-Ok-false.field-0-test);
+        first = λ clean. search rules;
+        readable = λ clean. search rules;
+        fails = λ clean e s represents sound.
+            let reads = reads_ours represents.0 (state g.S.Store c.args.conn).now.schema represents.1.has.tables in
+            absurd (true≢false (sym ((look.found clean).1 reads) ∙ c.in-Ok-false.field-0-test));
+        crash = λ clean trees may. only (look.looks.survives.crash clean trees may);
+      };
     }
 
 pub returns-in-Err : goal.returns-in-Err
 returns-in-Err g c =
     let look = c.in-Err.ensures in
     record {
-      mode = search rules;
-      limit = look.looks.survives.limit;
-      clean = λ clean. was_clean look.looks.survives clean;
-      why = inr (inl c.refusal_of.ensures.fault);
-      no_event = search rules;
-      first = search rules;
-      readable = search rules;
-      fails = λ clean e s represents sound. c.refusal_of.ensures.fault;
-      kept = λ clean. look.looks.kept clean;
-      crash = λ clean trees may. only (look.looks.survives.crash clean trees may);
+      call = looks_call _ look.looks (λ clean. look.looks.kept clean);
+      found = record {
+        mode = search rules;
+        why = inr (inl c.refusal_of.ensures.fault);
+        no_event = search rules;
+        first = search rules;
+        readable = search rules;
+        fails = λ clean e s represents sound. c.refusal_of.ensures.fault;
+        crash = λ clean trees may. only (look.looks.survives.crash clean trees may);
+      };
     }
 
 pub returns-in-Err-load_tables : goal.returns-in-Err-load_tables
@@ -83,20 +84,21 @@ returns-in-Err-load_tables g c =
     λ clean. early.looks.same (before clean) in
     let failed = c.in-Err-load_tables.ensures in
     record {
-      mode = search rules;
-      limit = c.load_tables.ensures.looks.survives.limit ∙ c.reads_event.ensures.looks.survives.limit;
-      clean = λ clean. was_clean c.reads_event.ensures.looks.survives (c.load_tables.ensures.looks.clean clean);
-      why = inr failed.fault;
-      no_event = search rules;
-      first = λ clean place is. rw (same clean).0.now_is at (failed.first clean place is);
-      readable = λ clean place is. (early.found (before clean)).0 c.in-Ok-true.field-0-test;
-      fails = λ clean e s represents sound.
-          let here = kept_represents _ _ e s (same clean) represents in
-          failed.found clean here.0 e s here.1 sound;
-      kept = λ clean. then_keeps (state g.S.Store c.args.conn) (state g.S.Store c.reads_event.new.conn)
-          (state g.S.Store c.load_tables.new.conn) (same clean) (failed.looks.kept clean);
-      crash = λ clean trees may.
-          only ((survives_both c.reads_event.ensures.looks.survives c.load_tables.ensures.looks.survives).crash clean trees may);
+      call = looks_call _ (looks_on early.looks failed.looks)
+          (λ clean. then_keeps (state g.S.Store c.args.conn) (state g.S.Store c.reads_event.new.conn)
+          (state g.S.Store c.load_tables.new.conn) (same clean) (failed.looks.kept clean));
+      found = record {
+        mode = search rules;
+        why = inr failed.fault;
+        no_event = search rules;
+        first = λ clean place is. rw (same clean).0.now_is at (failed.first clean place is);
+        readable = λ clean place is. (early.found (before clean)).0 c.in-Ok-true.field-0-test;
+        fails = λ clean e s represents sound.
+            let here = kept_represents _ _ e s (same clean) represents in
+            failed.found clean here.0 e s here.1 sound;
+        crash = λ clean trees may.
+            only ((survives_both c.reads_event.ensures.looks.survives c.load_tables.ensures.looks.survives).crash clean trees may);
+      };
     }
 
 pub returns-in-Ok : goal.returns-in-Ok
@@ -119,22 +121,23 @@ returns-in-Ok g c =
     record { layout = represents.0; is = sym is.2; represents = represents.1 } in
     (is.0, is.1, shown g c clean (loaded.looks.same clean) c.in-Ok.version e s here) in
     record {
-      ready = refl;
-      low = loaded.low;
-      sound = loaded.sound;
-      limit = c.load_tables.ensures.looks.survives.limit ∙ c.reads_event.ensures.looks.survives.limit;
-      clean = λ clean. was_clean c.reads_event.ensures.looks.survives (c.load_tables.ensures.looks.clean clean);
-      same = λ clean. unchanged_then _ _ _ (same g c clean) (loaded.looks.same clean);
-      crash = λ clean trees may.
-          only ((survives_both c.reads_event.ensures.looks.survives c.load_tables.ensures.looks.survives).crash clean trees may);
-      reads = λ clean. rw (same g c clean).0.now_is at (loaded.reads clean);
-      shows = shows;
-      represents = λ clean has keyed. shown g c clean (loaded.looks.same clean) _ _ _ (represents_where (shows clean has) keyed);
-      found = sees;
-      version = λ clean e s v represents sound.
-          (loaded.found clean represents.layout e s (at clean represents.layout e s represents.represents) sound).2 ∙ represents.is;
-      leaves = λ e s represents sound clean trees may.
-          shows_leaves_in c.in-Ok.version (state g.S.Store c.load_tables.new.conn) e s
-          (λ db is_open may. g.met.S.Store.settled c.load_tables.new.conn.store db is_open may)
-          (sees clean e s represents sound).2 trees may;
+      call = looks_call _ (looks_on c.in-Ok-true.ensures.looks loaded.looks) (λ clean. tt);
+      found = record {
+        ready = refl;
+        low = loaded.low;
+        sound = loaded.sound;
+        same = λ clean. unchanged_then _ _ _ (same g c clean) (loaded.looks.same clean);
+        crash = λ clean trees may.
+            only ((survives_both c.reads_event.ensures.looks.survives c.load_tables.ensures.looks.survives).crash clean trees may);
+        reads = λ clean. rw (same g c clean).0.now_is at (loaded.reads clean);
+        shows = shows;
+        represents = λ clean has keyed. shown g c clean (loaded.looks.same clean) _ _ _ (represents_where (shows clean has) keyed);
+        found = sees;
+        version = λ clean e s v represents sound.
+            (loaded.found clean represents.layout e s (at clean represents.layout e s represents.represents) sound).2 ∙ represents.is;
+        leaves = λ e s represents sound clean trees may.
+            shows_leaves_in c.in-Ok.version (state g.S.Store c.load_tables.new.conn) e s
+            (λ db is_open may. g.met.S.Store.settled c.load_tables.new.conn.store db is_open may)
+            (sees clean e s represents sound).2 trees may;
+      };
     }

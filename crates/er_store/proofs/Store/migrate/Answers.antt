@@ -1,13 +1,11 @@
-use Rattle.er_store.proofs.Prelude.{rules}
+use Rattle.er_store.proofs.{Prelude.rules, Lending.still_ok}
 use Rattle.er_store.proofs.Store.migrate.Goals as goal
 
 pub returns-in-Ok : goal.returns-in-Ok
 returns-in-Ok g c = record {
-  turn = search rules;
-  waits = search rules;
-  limit = c.in-Ok.ensures.transacts.limit;
-  clean = c.in-Ok.ensures.transacts.clean;
-  kept = λ clean. tt;
+  as_call = record { call = still_ok c.in-Ok.ensures.transacts.call; waits = search rules; stops = search rules };
+  version = search rules;
+  second = search rules;
   taken = search rules;
   migrated = λ clean version may. c.in-Ok.ensures.migrated clean c.args.serial may;
   beside = λ clean version may. c.in-Ok.ensures.beside clean c.args.serial may;

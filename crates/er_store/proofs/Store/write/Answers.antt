@@ -9,6 +9,7 @@ use Rattle.er_store.specs.{Calls.WritesChange, Representing.{Either, AfterCrash}
 use Rattle.er_store.specs.declared.Store.{Store}
 use Rattle.er_store.specs.Store as store
 use Rattle.std.specs.List.{AllByRecursion}
+use Rattle.er_store.proofs.Lending.{still_ok}
 use Rattle.er_store.proofs.Store.write.Goals as goal
 
 same_rest : (l : Layout) (trees : Trees) (tables : List Table)
@@ -26,12 +27,8 @@ pub returns-in-Ok : goal.returns-in-Ok
 returns-in-Ok g c =
     let made = c.in-Ok.ensures in
     record {
-      waits = search rules;
-      stops = search rules;
+      as_call = record { call = still_ok made.transacts.call; waits = search rules; stops = search rules };
       version = refl;
-      limit = made.transacts.limit;
-      clean = made.transacts.clean;
-      kept = λ clean. tt;
       others = λ clean was is_open. (made.written clean was).1;
       written = λ clean was. (made.written clean was).0;
       acknowledged = made.acknowledged;
@@ -52,14 +49,19 @@ failed_writes g old new conn failed crash runs same fault stopped version =
     let late : HasCleanDisk (store.store_state g new) → HasCleanDisk (sqlite.state g conn) =
     subst (λ (h : Held _). HasCleanDisk (sqlite.state g h)) same in
     let keeps : HasCleanDisk (store.store_state g new) → KeepsTables (store.store_state g old) (store.store_state g new) =
-    λ clean. subst (λ (h : Held _). KeepsTables (store.store_state g old) (sqlite.state g h)) (sym same) (failed.kept (late clean)) in
+    λ clean. subst (λ (h : Held _). KeepsTables (store.store_state g old) (sqlite.state g h)) (sym same) (failed.call.kept (late clean)) in
     record {
-      waits = λ stopped. absurd (true≢false (sym stopped ∙ runs));
-      stops = λ runs. (fault, stopped);
+      as_call = record {
+        call = record {
+          clean = λ now. failed.call.clean (late now);
+          limit = subst (λ (h : Held _). (sqlite.state g h).step_limit ≡ (store.store_state g old).step_limit) (sym same)
+              failed.call.limit;
+          kept = keeps;
+        };
+        waits = λ stopped. absurd (true≢false (sym stopped ∙ runs));
+        stops = λ runs. (fault, stopped);
+      };
       version = version;
-      limit = subst (λ (h : Held _). (sqlite.state g h).step_limit ≡ (store.store_state g old).step_limit) (sym same) failed.limit;
-      clean = λ now. failed.clean (late now);
-      kept = keeps;
       others = λ now was is_open. keeps_same _ _ _ (keeps now was.settled is_open).0;
       written = λ now was. tt;
       acknowledged = λ was. tt;
@@ -75,12 +77,12 @@ returns-in-Err g c =
 
 pub returns-then-self : goal.returns-then-self
 returns-then-self g c = record {
-  waits = search rules;
-  stops = search rules;
+  as_call = record {
+    call = record { clean = λ clean. clean; limit = refl; kept = search rules };
+    waits = search rules;
+    stops = search rules;
+  };
   version = refl;
-  limit = refl;
-  clean = λ clean. clean;
-  kept = search rules;
   others = λ clean was is_open. keeps_same _ _ _ refl;
   written = λ clean was. tt;
   acknowledged = λ was. tt;

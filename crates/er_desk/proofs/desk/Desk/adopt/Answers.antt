@@ -1,5 +1,5 @@
 use Rattle.std.proofs.Common.{◌≡◌, ℕ, IsTrue, false, rules, inl, inr, sym, subst, ◌∙◌, refl, true≢false}
-use Rattle.sqlite.specs.{Held.Held, State.State, Tree.Trees}
+use Rattle.sqlite.specs.{Held.Held, State.{State, HasCleanDisk}, Tree.Trees}
 use Rattle.sqlite_trees.specs.declared.store.Store.{Ghosts}
 use Rattle.er_event.specs.Event.{EventValue}
 use Rattle.er_event.specs.declared.refusals.{Refusal.TheVariants.Damaged, Place.TheVariants.BracketTable}
@@ -18,7 +18,8 @@ use Rattle.er_desk.proofs.desk.Desk.adopt.Goals as goal
 pub returns-in_err-store : goal.returns-in_err-store
 returns-in_err-store g c =
     let p = err_from_is_err_and c.from_residual.result c.from_residual.ensures.1 in
-    let failed = c.in_err-store.ensures in
+    let failed = c.in_err-store.ensures.found in
+    let call = c.in_err-store.ensures.call in
     rw (p.1, p.2) (record {
       mode = failed.mode;
       why = failed.why;
@@ -30,20 +31,20 @@ returns-in_err-store g c =
       found = λ point represents sound clean. failed.fails clean point.event point.serial represents sound.but_for_seeds;
       other_seeds = λ point represents sound none clean. inl (failed.fails clean point.event point.serial represents sound);
       left = leaves_all (state g.S.Store c.args.conn) (state g.S.Store c.in_err-store.field-0.0.0)
-          (λ db is_open may. g.met.S.Store.settled c.args.conn.store db is_open may) failed.clean failed.crash failed.kept;
+          (λ db is_open may. g.met.S.Store.settled c.args.conn.store db is_open may) call.clean failed.crash call.kept;
     })
 
 -- ---- the seeds agree
 
 pub invariant_of-result-clause-sound : goal.invariant_of-result-clause-sound
 invariant_of-result-clause-sound g c = ∣ record {
-  but_for_seeds = c.in_ok-store.ensures.sound;
+  but_for_seeds = c.in_ok-store.ensures.found.sound;
   seeds = c.in-Ok-true.ensures.0 c.in-Ok-true.field-0-test;
 } ∣₁
 
 pub returns-in-Ok-true : goal.returns-in-Ok-true
 returns-in-Ok-true g c =
-    let opened = c.in_ok-store.ensures in
+    let opened = c.in_ok-store.ensures.found in
     let seeds : HasSeeds c.in_ok-store.event = c.in-Ok-true.ensures.0 c.in-Ok-true.field-0-test in
     record {
       ready = opened.ready;
@@ -71,7 +72,7 @@ returns-in-Ok-true g c =
           none (subst HasSeeds (opened.found clean point.event point.serial represents sound).0 seeds);
       same = opened.same;
       left = unchanged_leaves_all (state g.S.Store c.args.conn) (tables.store_state g.S.Store c.in_ok-store.store)
-          (λ db is_open may. g.met.S.Store.settled c.args.conn.store db is_open may) opened.clean opened.crash opened.same;
+          (λ db is_open may. g.met.S.Store.settled c.args.conn.store db is_open may) c.in_ok-store.ensures.call.clean opened.crash opened.same;
     }
 
 -- ---- they do not
@@ -79,9 +80,9 @@ returns-in-Ok-true g c =
 -- What is given back then. That it is the store's connection is for `search` to find, so that a body that keeps the store is
 -- refused there.
 gives_back : {S : Type 0} (g : Ghosts S) (old : State) (it : Store S g × EventValue × ℕ) (back : Held S) → IsAdopted g old it
-    → ((db : Trees) → IsTrue old.is_open → old.may_leave db → db ≡ old.committed.trees) → (HasSeeds it.1 → ⊥)
+    → (HasCleanDisk (tables.store_state g it.0) → HasCleanDisk old) → ((db : Trees) → IsTrue old.is_open → old.may_leave db → db ≡ old.committed.trees) → (HasSeeds it.1 → ⊥)
     → back ≡ tables.connection it.0 → back.in_transaction ≡ false → HasNotAdopted g old (back, Damaged BracketTable)
-gives_back g old it back opened settled unseeded same mode =
+gives_back g old it back opened clean settled unseeded same mode =
     let late = back_clean g old back it.0 same in
     record {
       mode = mode;
@@ -101,12 +102,12 @@ gives_back g old it back opened settled unseeded same mode =
           absurd (unseeded (subst HasSeeds (sym found.0) sound.seeds));
       other_seeds = λ point represents sound none clean. inr refl;
       left = back_leaves_all g old back it.0 same
-          (unchanged_leaves_all old (tables.store_state g it.0) settled opened.clean opened.crash opened.same);
+          (unchanged_leaves_all old (tables.store_state g it.0) settled clean opened.crash opened.same);
     }
 
 pub returns-in-Ok-false : goal.returns-in-Ok-false
 returns-in-Ok-false g c =
-    gives_back g.S.Store (state g.S.Store c.args.conn) _ _ c.in_ok-store.ensures
+    gives_back g.S.Store (state g.S.Store c.args.conn) _ _ c.in_ok-store.ensures.found c.in_ok-store.ensures.call.clean
     (λ db is_open may. g.met.S.Store.settled c.args.conn.store db is_open may)
     (λ has. true≢false (sym (c.in-Ok-false.ensures.1 has) ∙ c.in-Ok-false.field-0-test)) (search rules) (search rules)
 
@@ -114,7 +115,7 @@ returns-in-Ok-false g c =
 
 pub returns-in-Err : goal.returns-in-Err
 returns-in-Err g c =
-    let opened = c.in_ok-store.ensures in
+    let opened = c.in_ok-store.ensures.found in
     record {
       mode = c.into_connection-in-Err.ensures.mode;
       why = inr (inl (inl refl));
@@ -124,5 +125,5 @@ returns-in-Err g c =
       left = back_leaves_all g.S.Store (state g.S.Store c.args.conn) c.into_connection-in-Err.result c.in_ok-store.store
           c.into_connection-in-Err.ensures.same
           (unchanged_leaves_all (state g.S.Store c.args.conn) (tables.store_state g.S.Store c.in_ok-store.store)
-          (λ db is_open may. g.met.S.Store.settled c.args.conn.store db is_open may) opened.clean opened.crash opened.same);
+          (λ db is_open may. g.met.S.Store.settled c.args.conn.store db is_open may) c.in_ok-store.ensures.call.clean opened.crash opened.same);
     }

@@ -47,7 +47,8 @@ returns-in-Err g c = record {
 pub returns-in_err-store : goal.returns-in_err-store
 returns-in_err-store g c =
     let p = err_from_is_err_and c.from_residual.result c.from_residual.ensures.1 in
-    let failed = c.in_err-store.ensures in
+    let failed = c.in_err-store.ensures.made in
+    let call = c.in_err-store.ensures.call in
     let stored = λ (trees : Trees) (made : IsStoredIn 2 c.in-Ok.event 0 trees). (let new : IsStoredIn 2
     (initial_event c.args.name c.args.rounds c.args.cut) 0 trees =
     subst (λ (e : EventValue). IsStoredIn 2 e 0 trees) c.in-Ok.ensures.value made in new) in
@@ -57,9 +58,9 @@ returns-in_err-store g c =
       beyond = λ is. absurd (not_setup _ failed.why is);
       checked = λ none. absurd (none (c.in-Ok.ensures.within.0 refl));
       exists = failed.exists;
-      clean = failed.clean;
+      clean = call.clean;
       left = record {
-        kept = failed.kept;
+        kept = call.kept;
         spares = failed.spares;
         still = λ reads is_open clean trees may. g.met.S.Store.settled c.args.conn.store trees is_open (failed.spares reads clean trees may);
         crash = λ none clean trees may. elim (failed.crash none clean trees may) [
@@ -83,13 +84,13 @@ invariant_of-result-clause-sound g c = ∣ new_sound _ _ _ _ c.in-Ok.ensures.val
 
 pub returns : goal.returns
 returns g c =
-    let made = c.in_ok-store.ensures in
+    let made = c.in_ok-store.ensures.made in
     record {
       within = c.in-Ok.ensures.within.0 refl;
       made = desk_state_same _ _ _ _ _ _ _ c.in-Ok.ensures.value made.version made.ready;
       sound = new_sound _ _ _ _ c.in-Ok.ensures.value c.in-Ok.ensures.sound;
       version = made.version;
-      clean = made.clean;
+      clean = c.in_ok-store.ensures.call.clean;
       absent = λ clean. (made.absent clean).0;
       beside = λ clean.
           subst (λ (e : EventValue). HoldsBeside 2 e (state g.S.Store c.args.conn).now (tables.store_state g.S.Store c.in_ok-store.store))

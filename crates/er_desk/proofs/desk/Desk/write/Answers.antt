@@ -24,11 +24,11 @@ returns-in-Ok g c =
     let same = sym c.in_ok-next.ensures.ok in
     record {
       taken = (
-        desk_state_same _ _ _ _ _ _ _ c.in_ok-next.ensures.ok wrote.version (c.in-Ok.ensures.stops c.requires.runs ∙ sym c.requires.runs),
+        desk_state_same _ _ _ _ _ _ _ c.in_ok-next.ensures.ok wrote.version (c.in-Ok.ensures.as_call.stops c.requires.runs ∙ sym c.requires.runs),
         refl,
       );
       refused = tt;
-      clean = wrote.clean;
+      clean = wrote.as_call.call.clean;
       written = λ clean shows. subst (λ (v : ℕ). RepresentsNow v (tables.store_state g.S.Store c.write.new.self) c.in_ok-next.next
           (old.serial + 1)) (sym wrote.version)
           (subst (λ (e : EventValue). RepresentsNow (version_in old) (tables.store_state g.S.Store c.write.new.self) e
@@ -48,13 +48,13 @@ returns-in-Ok g c =
 pub returns-in-Err : goal.returns-in-Err
 returns-in-Err g c =
     let wrote = c.write.ensures in
-    let stops = c.in-Err.ensures.stops c.requires.runs in
+    let stops = c.in-Err.ensures.as_call.stops c.requires.runs in
     record {
       taken = tt;
       refused = inr (desk_state_same _ _ _ _ _ _ _ refl wrote.version stops.1, stops.0);
-      clean = wrote.clean;
+      clean = wrote.as_call.call.clean;
       written = λ clean shows. tt;
-      kept = c.in-Err.ensures.kept;
+      kept = c.in-Err.ensures.as_call.call.kept;
       others = wrote.others;
       version = wrote.version;
       acknowledged = λ shows. tt;
