@@ -4,7 +4,7 @@ use Rattle.er_store.proofs.Prelude.{pairing_places, bracket_places, tally_places
 use Rattle.er_store.proofs.Prelude.{Shape, Lists, IsReadRefused, first_columns, HasTablesAt, RepresentsAt, Represents, Layout, ◌++◌}
 use Rattle.er_store.proofs.Prelude.{EventTable, PlayerTable, PairingTable, BracketTable, TallyTable, IsThere, Schema, Int, pos, at_places}
 use Rattle.er_store.proofs.Prelude.{player_places, player2_places, number_value, player, player2}
-use Rattle.er_store.proofs.Prelude.{player_shown, EventValue, IsSoundButForSeeds, Shown}
+use Rattle.er_store.proofs.Prelude.{player_shown, shown_of, EventValue, IsSoundButForSeeds, Shown}
 use Rattle.er_store.proofs.Prelude.{FailsToQuery, Result, Ok, Err, IsErrAnd, IfOk-weaker, IfErr-weaker, Database, Refusal, Held, Ghosts}
 use Rattle.er_store.proofs.Prelude.{state}
 use Rattle.er_store.proofs.Prelude.{Damaged, Place, IsFault}
@@ -37,7 +37,7 @@ module _ {R : Type 0} (form : Form R) (table : Shape R) (it : IsOurs form table)
       (it.selects l old.now.schema has)
 
   listed : (l : Layout) → Serves l → {rows : List Row} → HasTablesAt l old.now.schema → Shown sql [] old new rows
-      → Lists table.order (map (table.shown l.version) (old.now.trees (l.tree table.place))) rows
+      → Lists table.order (map (shown_of l.version table.place) (old.now.trees (l.tree table.place))) rows
   listed l serves {rows} has h = it.lists l old.now.trees rows (answers old new (chosen l serves has) h)
 
   pub refused : (l : Layout) → Serves l → (e : Error) → HasTablesAt l old.now.schema → FailsToQuery sql [] old new e
@@ -64,9 +64,9 @@ module _ {R : Type 0} (form : Form R) (table : Shape R) (it : IsOurs form table)
       lists : (l : Layout) → Serves l → HasTablesAt l old.now.schema → IsListed form table l old.now typed
       lists l serves has =
           let all = listed l serves has shows in
-          let width = listed_whole table.order form.width (table.shown l.version) (old.now.trees (l.tree table.place)) rows
+          let width = listed_whole table.order form.width (shown_of l.version table.place) (old.now.trees (l.tree table.place)) rows
           (it.whole l) all in
-          subst (Lists table.order (map (table.shown l.version) (old.now.trees (l.tree table.place))))
+          subst (Lists table.order (map (shown_of l.version table.place) (old.now.trees (l.tree table.place))))
           (sym (are ∙ (ap (map (first_columns form.width)) same ∙ width))) all
 
 -- ---- the five

@@ -17,8 +17,7 @@ use Rattle.er_store.specs.Shape.{pairing_table, bracket_table, tally_table}
 
 -- the rows of a table, in the order of its key
 abbrev pub IsListed : {R : Type 0} → Form R → Shape R → Layout → Database → List R → Type 0
-IsListed form table layout db rows = Lists table.order (map (table.shown layout.version) (db.trees (layout.tree table.place)))
-    (map form.columns rows)
+IsListed form table layout db rows = Lists table.order (rows_in layout db table.place) (map form.columns rows)
 
 -- the rows of the four tables that an event is made of
 pub record ListsParts (layout : Layout) (db : Database) (parts : Parts) : Type 0 where

@@ -22,8 +22,8 @@ use Rattle.er_event.specs.Rows.{event_row, player_rows, pairing_rows, bracket_ro
 use Rattle.er_event.specs.Version.{IsVersion, Keeps}
 use Rattle.er_store.specs.Tables.{find_event, read_event}
 use Rattle.er_store.specs.Layout.{Layout, IsThere, table_at}
-use Rattle.er_store.specs.Rows.{event_columns, player_columns, pairing_columns, bracket_columns, tally_columns}
-use Rattle.er_store.specs.Shape.{event_table, player_table, pairing_table, bracket_table, tally_table}
+use Rattle.er_store.specs.Rows.{event_columns, player_columns, pairing_columns, bracket_columns, tally_columns, at_places, event_places}
+use Rattle.er_store.specs.Rows.{player_shown, pairing_places, bracket_places, tally_places}
 
 -- the tree is of none of the event's five tables
 abbrev pub IsOther : Layout → ℕ → Type 0
@@ -59,11 +59,11 @@ AreKeyed version db = (layout : Layout) → layout.version ≡ version → HasTa
 
 -- what is read of a row of a table, in tables of this version
 abbrev pub shown_of : ℕ → Place → Row → Row
-shown_of version EventTable = event_table.shown version
-shown_of version PlayerTable = player_table.shown version
-shown_of version PairingTable = pairing_table.shown version
-shown_of version BracketTable = bracket_table.shown version
-shown_of version TallyTable = tally_table.shown version
+shown_of version EventTable = at_places event_places
+shown_of version PlayerTable = player_shown version
+shown_of version PairingTable = at_places pairing_places
+shown_of version BracketTable = at_places bracket_places
+shown_of version TallyTable = at_places tally_places
 
 -- the rows of a table, as SQL shows them
 abbrev pub rows_in : Layout → Database → Place → List Row

@@ -1,4 +1,4 @@
--- The five tables: how each is named and read, where its rows are, and which of them an event has.
+-- The five tables: how each is named and read, and which rows of it an event has.
 use Rattle.std.specs.Prelude.{ℕ, List, [], ◌∷◌}
 use Rattle.std.specs.declared.cmp.Ordering.{Ordering}
 use Rattle.sqlite.specs.Order.{Row}
@@ -13,8 +13,7 @@ use Rattle.er_event.specs.declared.rows.bracket.BracketRow.{BracketRow}
 use Rattle.er_event.specs.declared.rows.tally.TallyRow.{TallyRow}
 use Rattle.er_store.specs.Tables.{read_event, read_players_of, read_pairings}
 use Rattle.er_store.specs.Tables.{read_bracket, read_tallies}
-use Rattle.er_store.specs.Rows.{event_columns, player_columns, pairing_columns, bracket_columns, tally_columns, at_places, event_places}
-use Rattle.er_store.specs.Rows.{player_shown, pairing_places, bracket_places, tally_places}
+use Rattle.er_store.specs.Rows.{event_columns, player_columns, pairing_columns, bracket_columns, tally_columns}
 use Rattle.er_store.specs.Reading.{by_first, by_first_two}
 
 -- a typed row: how many columns it has, and what they show
@@ -22,12 +21,11 @@ pub record Form (R : Type 0) : Type 1 where
   pub width : ℕ
   pub columns : R → Row
 
--- a table of such rows: how a refusal names it, and in tables of a version the statement that reads it, what is read of a
--- stored row, and the rows of an event with its serial; and the order of its key
+-- a table of such rows: how a refusal names it, and in tables of a version the statement that reads it, and the rows of an event
+-- with its serial; and the order of its key
 pub record Shape (R : Type 0) : Type 1 where
   pub place : Place
   pub read : ℕ → List ℕ
-  pub shown : ℕ → Row → Row
   pub order : Row → Row → Ordering
   pub rows : ℕ → EventValue → ℕ → List R
 
@@ -50,7 +48,6 @@ abbrev pub event_table : Shape EventRow
 event_table = record {
   place = EventTable;
   read = λ version. read_event;
-  shown = λ version. at_places event_places;
   order = by_first;
   rows = λ version e s. event_row version e s ∷ [];
 }
@@ -59,7 +56,6 @@ abbrev pub player_table : Shape PlayerRow
 player_table = record {
   place = PlayerTable;
   read = read_players_of;
-  shown = player_shown;
   order = by_first;
   rows = λ version e s. player_rows e;
 }
@@ -68,7 +64,6 @@ abbrev pub pairing_table : Shape PairingRow
 pairing_table = record {
   place = PairingTable;
   read = λ version. read_pairings;
-  shown = λ version. at_places pairing_places;
   order = by_first_two;
   rows = λ version e s. keyed_pairing_rows e;
 }
@@ -77,7 +72,6 @@ abbrev pub bracket_table : Shape BracketRow
 bracket_table = record {
   place = BracketTable;
   read = λ version. read_bracket;
-  shown = λ version. at_places bracket_places;
   order = by_first_two;
   rows = λ version e s. bracket_rows e;
 }
@@ -86,7 +80,6 @@ abbrev pub tally_table : Shape TallyRow
 tally_table = record {
   place = TallyTable;
   read = λ version. read_tallies;
-  shown = λ version. at_places tally_places;
   order = by_first;
   rows = λ version e s. tally_rows e;
 }

@@ -28,7 +28,7 @@ use Rattle.sqlite.specs.Term.{Term}
 use Rattle.er_store.specs.Layout.{Layout}
 use Rattle.er_store.specs.Shape.{Form, Shape, tally_form, tally_table}
 use Rattle.er_store.specs.Reading.{Lists, first_columns}
-use Rattle.er_store.specs.Representing.{HasTablesAt, RepresentsAt, Represents}
+use Rattle.er_store.specs.Representing.{HasTablesAt, RepresentsAt, Represents, rows_in, shown_of}
 use Rattle.er_store.specs.Loading.{IsListed, ListsParts}
 use Rattle.er_store.specs.Damage.{IsMisreadAs, MayRead, ReadsParts, IsFirstMisread, IfDamaged, said_version}
 use Rattle.er_store.specs.Tables.{read_tallies}
@@ -54,10 +54,10 @@ pub record IsOurs {R : Type 0} (form : Form R) (table : Shape R) : Type 0 where
       → Selects (table.read l.version) (table_query (l.tree table.place) (terms l.version) keys) schema
   pub lists : (l : Layout) (trees : Trees) (rows : List Row)
       → IsAnswer (table_query (l.tree table.place) (terms l.version) keys) (overlay trees []) [] rows
-      → Lists table.order (map (table.shown l.version) (trees (l.tree table.place))) rows
-  pub whole : (l : Layout) (r : Row) → first_columns form.width (table.shown l.version r) ≡ table.shown l.version r
+      → Lists table.order (map (shown_of l.version table.place) (trees (l.tree table.place))) rows
+  pub whole : (l : Layout) (r : Row) → first_columns form.width (shown_of l.version table.place r) ≡ shown_of l.version table.place r
   pub exact : (l : Layout) (db : Database) (e : EventValue) (s : ℕ) (rows : List Row) → RepresentsAt l db e s → IsSoundButForSeeds e
-      → Lists table.order (map (table.shown l.version) (db.trees (l.tree table.place))) rows
+      → Lists table.order (rows_in l db table.place) rows
       → rows ≡ map form.columns (table.rows l.version e s)
   pub same : (r s : R) → form.columns r ≡ form.columns s → r ≡ s
 
