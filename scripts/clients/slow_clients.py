@@ -80,6 +80,18 @@ def drip(client, sent, size, pause, is_over):
         time.sleep(pause)
 
 
+def still_taken(client, byte, seconds):
+    """Whether the other side takes this byte again and again for so long. Each comes by itself."""
+    until = time.monotonic() + seconds
+    try:
+        while time.monotonic() < until:
+            client.sendall(byte)
+            time.sleep(0.0002)
+    except ConnectionError:
+        return False
+    return True
+
+
 def browser_there():
     """The browser that is there, or nothing."""
     found = next(filter(None, map(shutil.which, BROWSERS)), None)
@@ -100,7 +112,7 @@ class Kinds:
         self.accepted, self.reported = (served_plainly(self.after, it)[0] for it in (POST, GET_SLIP))
 
     def all(self):
-        return [self.silent, self.dripping, self.steady, self.stopping, self.staying, self.unread, self.sipping, *([self.browsed] if self.browser else [])]
+        return [self.silent, self.dripping, self.steady, self.stopping, self.staying, self.unread, self.sipping, self.crumbling, *([self.browsed] if self.browser else [])]
 
     def silent(self, file):
         """Twenty that send nothing are let go one after the other."""
@@ -165,6 +177,17 @@ class Kinds:
             for it in clients:
                 it.close()
         yield "twenty that stay, the file", rows_alone(file), rows_of(self.after)
+
+    def crumbling(self, file):
+        """One that is refused at once, and still sends on byte by byte, gets its answer."""
+        sent = POST[: POST.index(b"\r\n\r\n") + 4].replace(b"19", b"1000000")
+        with Serving(self.program, file, 1) as serving, serving.client() as client:
+            sent_whole(client, sent)
+            yield "one that sends on byte by byte, all of it", still_taken(client, b"{", 0.6 * REST), True
+            sent_to_the_end(client, b"")
+            yield "one that sends on byte by byte", received(client), served_plainly(copy.deepcopy(self.event), sent)[0]
+            yield "one that sends on byte by byte, the end", serving.end(), served(1)
+        yield "one that sends on byte by byte, the file", rows_alone(file), rows_of(self.event)
 
     def reader(self, serving):
         """A client that asks for the standings, and has room for few bytes of them, so that the writes that answer it have to wait for it."""

@@ -12,8 +12,8 @@ const REQUEST_SECONDS: u64 = 5;
 const CLIENT_SECONDS: u64 = 30;
 /// How long what it sends is read on after its answer.
 const REST_MILLISECONDS: u64 = 500;
-/// How much of it: so many reads of 16 KB, four megabytes in all.
-const REST_READS: u16 = 256;
+/// How many bytes of it: four megabytes.
+const REST_BYTES: usize = 4_194_304;
 
 /// One side of a client's connection, which reads or writes while its time lasts.
 #[derive(Drop)]
@@ -77,10 +77,11 @@ impl Client<'_> {
             return;
         };
         let mut rest = [0; 16_384];
-        for _ in 0..REST_READS {
+        let mut left = REST_BYTES;
+        while left > 0 {
             match self.read_rest(&begun, &mut rest) {
                 Ok(0) | Err(_) => return,
-                Ok(_more) => {}
+                Ok(count) => left = left.saturating_sub(count),
             }
         }
     }
