@@ -112,7 +112,7 @@ class Kinds:
         self.accepted, self.reported = (served_plainly(self.after, it)[0] for it in (POST, GET_SLIP))
 
     def all(self):
-        return [self.silent, self.dripping, self.steady, self.stopping, self.staying, self.unread, self.sipping, self.crumbling, *([self.browsed] if self.browser else [])]
+        return [self.silent, self.dripping, self.steady, self.stopping, self.staying, self.unread, self.sipping, self.crumbling, self.paused, *([self.browsed] if self.browser else [])]
 
     def silent(self, file):
         """Twenty that send nothing are let go one after the other."""
@@ -188,6 +188,19 @@ class Kinds:
             yield "one that sends on byte by byte", received(client), served_plainly(copy.deepcopy(self.event), sent)[0]
             yield "one that sends on byte by byte, the end", serving.end(), served(1)
         yield "one that sends on byte by byte, the file", rows_alone(file), rows_of(self.event)
+
+    def paused(self, file):
+        """The program is stopped in the middle of a score, as by Ctrl-Z, and goes on: the score is taken."""
+        with Serving(self.program, file, 1) as serving, serving.client() as client:
+            for number, part in ((signal.SIGSTOP, POST[:20]), (signal.SIGCONT, b""), (signal.SIGSTOP, POST[20:40]), (signal.SIGCONT, b"")):
+                sent_whole(client, part)
+                time.sleep(0.2 * READ)
+                serving.process.send_signal(number)
+            time.sleep(0.2 * READ)
+            sent_to_the_end(client, POST[40:])
+            yield "of a program that was stopped and goes on", received(client), self.accepted
+            yield "of a program that was stopped and goes on, the end", serving.end(), served(1)
+        yield "of a program that was stopped and goes on, the file", rows_alone(file), rows_of(self.after)
 
     def reader(self, serving):
         """A client that asks for the standings, and has room for few bytes of them, so that the writes that answer it have to wait for it."""

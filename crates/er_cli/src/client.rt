@@ -1,3 +1,5 @@
+ghost use Rattle.std.specs.Prelude.{◌≤◌, length, IfOk};
+
 use std::io::{self, ErrorKind, Read, Write};
 use std::net::{Shutdown, TcpStream};
 use std::time::{Duration, Instant};
@@ -14,6 +16,8 @@ const CLIENT_SECONDS: u64 = 30;
 const REST_MILLISECONDS: u64 = 500;
 /// How many bytes of it: four megabytes.
 const REST_BYTES: usize = 4_194_304;
+/// How often one read may be interrupted.
+const INTERRUPTIONS: u16 = 1000;
 
 /// One side of a client's connection, which reads or writes while its time lasts.
 #[derive(Drop)]
@@ -59,6 +63,15 @@ impl Client<'_> {
         }
     }
 
+    /// Reads once, while the client's time lasts.
+    fn read_once(&self, buf: &mut [u8]) -> io::Result<usize>
+        ensures bound { IfOk result (λ count. count ≤ length buf.new) }
+    {
+        let time = self.time_for(READ_SECONDS)?;
+        self.stream.set_read_timeout(Some(time))?;
+        (&self.stream).read(buf)
+    }
+
     /// What a client still sends, after its answer.
     fn read_rest(&self, begun: &Instant, buf: &mut [u8]) -> io::Result<usize> {
         let taken = begun.elapsed(self.rt)?;
@@ -88,10 +101,15 @@ impl Client<'_> {
 }
 
 impl Read for Client<'_> {
+    /// Reads. If the program was stopped meanwhile, as by Ctrl-Z, and goes on, the system calls the read interrupted: it is tried again.
     fn read(&mut self, buf: &mut [u8]) -> io::Result<usize> {
-        let time = self.time_for(READ_SECONDS)?;
-        self.stream.set_read_timeout(Some(time))?;
-        self.stream.read(buf)
+        for _ in 0..INTERRUPTIONS {
+            match self.read_once(buf) {
+                Err(error) if error.kind() == ErrorKind::Interrupted => {}
+                read => return read,
+            }
+        }
+        Err(ErrorKind::Interrupted.into())
     }
 }
 
