@@ -90,11 +90,7 @@ def wide_lines(text):
     return [it for it in text.split(b"\n") if len(it) > 80]
 
 
-NAMES = (
-    "BadName NameTaken PlayersFull NotEnrolling TooFewPlayers NotSwiss WrongRound RoundOpen AllRoundsPaired NoPairing Budget NoSuchMatch BadScore "
-    "AlreadyReported NotReported IsBye NoSuchPlayer AlreadyDropped RoundsNotDone NoCut TooFewForCut NotPlayoff SerialFull Memory Store NeedsReopen "
-    "NoEvent EventExists Damaged BadSetup"
-).split()
+COMPANIONS = "event-desk", "event-sheets", "event-phones", "event-check"
 
 
 def test_help(program):
@@ -107,8 +103,8 @@ def test_help(program):
         assert program.run(word) == (0, VERSION, b""), word
     listed = [name for name, _words in subcommands.listed(help_text.decode())]
     assert sorted(listed) == sorted(subcommands.read()), "--help lists what is read"
-    for number, name in enumerate(NAMES, 1):
-        assert b"\n  %2d %s " % (number, name.encode()) in help_text, f"{name} in the help"
+    assert help_text.count(b"\n") <= 2 * 24 - 2, "--help fits two screens"
+    assert [it for it in COMPANIONS if it not in help_text.decode()] == [], "--help names the companions"
     assert program.fed(b"init\tFriday\t3\t0\nserve\t0\t1\nplayers\n") == (0, b"ok 0\nusage\n  No D Name\n", b""), "a script serves nobody"
     assert program.fed(b"init\tFriday\t3\t0\nimport\tnames.csv\nplayers\n") == (0, b"ok 0\nusage\n  No D Name\n", b""), "a script imports no list"
 

@@ -16,122 +16,45 @@ usage: event_reporter SUBCOMMAND FILE WORDS
 Keeps one event of a Magic Swiss tournament in FILE. Once a command is answered
 `ok`, it is in the file, even if the program is stopped right after.
 
+At a table, `event-desk FILE` starts the prompt. event-sheets prints pairings,
+slips and standings, event-phones takes scores from phones, and event-check
+checks an event by a second reading of the rules. Each says more by --help.
+
   init FILE NAME ROUNDS CUT       creates the event: 1 to 12 rounds, and a cut
                                   to 0, 2, 4 or 8 players
   enrol FILE NAME                 enrols a player, who gets the next number
-  import FILE CSV                 enrols the players in a list: a CSV with the
-                                  heading name, and one name per line
-  start FILE                      begins the rounds, with two players or more
-  pair FILE ROUND SEED            pairs the next round; SEED, 64 hexadecimal
-                                  digits, orders players with equal points
+  import FILE CSV                 enrols the players in a list
+  start FILE                      begins the rounds
+  pair FILE ROUND SEED            pairs the next round
   result FILE ROUND TABLE X Y D   enters a score: games won by the player named
                                   first, by the second, and drawn
-  correct FILE ROUND TABLE X Y D  replaces a score, as often as you need
-  drop FILE PLAYER                drops the player with this number, who stays
-                                  in the lists
-  cut FILE                        once all rounds are complete, seeds the
-                                  playoff by the standings, without players who
-                                  have dropped
-  playoff FILE STAGE SLOT X Y D   enters a playoff score, as result does; one of
-                                  the two must have won more games
-  players FILE                    lists the players by number, with a D for
-                                  those who have dropped
-  standings FILE                  lists the players by rank, with their points
-                                  and percentages
-  slips FILE ROUND                lists the matches of a round, table by table
-  bracket FILE                    lists the matches of the playoff, stage by
-                                  stage, and then its champion
-  export FILE KIND                prints a CSV; KIND is players, or results,
-                                  which has the Swiss rounds
-  serve FILE PORT COUNT           takes scores over HTTP from programs on this
-                                  machine, for COUNT connections
+  correct FILE ROUND TABLE X Y D  replaces a score
+  drop FILE PLAYER                drops the player with this number
+  cut FILE                        seeds the playoff, after the last round
+  playoff FILE STAGE SLOT X Y D   enters a playoff score
+  players FILE                    lists the players by number
+  standings FILE                  lists the players by rank
+  slips FILE ROUND                lists the matches of a round
+  bracket FILE                    lists the matches of the playoff
+  export FILE KIND                prints a CSV of the players, or of the results
+  serve FILE PORT COUNT           takes scores from programs on this machine
   migrate FILE                    moves the file of an older program to the
-                                  tables of this one; there is no way back
+                                  tables of this one
 
-  SUBCOMMAND --help               says more about one of them
-  -h, --help                      prints this text
-  -V, --version                   prints the version
+  SUBCOMMAND --help               says more about one of them, with an example
+  -h, --help, -V, --version       prints this text, or the version
 
-An evening: init, then enrol each player or import a list, then start. In each
-round: pair, slips, and a result for each table. After the last round:
-standings, or cut and a playoff for each match. Try it:
-
-  event_reporter init friday.event 'Friday Night' 3 0
-  event_reporter enrol friday.event Ana
-  event_reporter players friday.event
-
-To keep a copy, copy FILE while nothing uses it. Do so before each pair, cut,
-drop and migrate: a copy is the only way back.
-
-Without words, the program reads the same commands as a script from standard
-input: without FILE, one per line, the words separated by one TAB. A script
-keeps its event in memory only. Try it:
+Copy FILE while nothing uses it, before each pair, cut, drop and migrate: a copy
+is the only way back. Without words, the program reads the same commands as a
+script, one per line without FILE, the words separated by one TAB:
 
   printf 'init\\tFriday\\t3\\t0\\nplayers\\n' | event_reporter
 
-A command that is taken is answered `ok` and the number of commands taken so
-far. One that isn't is answered `refused`, a number and a name, and changes
-nothing; an import that is refused keeps the players it has enrolled by then.
-The refusals:
-
-   1 BadName          a name has 1 to 60 bytes, no control character, and no
-                      space at either end: change it
-   2 NameTaken        a player has this name: add something that tells the two
-                      apart
-   3 PlayersFull      512 players are enrolled: there is no room for more
-   4 NotEnrolling     the event has started; for enrol, the playoff has begun,
-                      and nobody can enrol now
-   5 TooFewPlayers    it takes two players who have not dropped: enrol them
-   6 NotSwiss         the Swiss rounds have not begun, or the playoff has:
-                      start, or playoff
-   7 WrongRound       another round is next: slips shows which rounds are
-                      paired
-   8 RoundOpen        a match of the last round has no score: slips shows it
-                      with a -
-   9 AllRoundsPaired  all rounds are paired, and nobody can enrol now: enter
-                      the missing scores, then cut
-  10 NoPairing        no round is left in which no two players meet again and
-                      nobody has a second bye: the standings are the result
-  11 Budget           no pairing was found in a million steps: try another SEED
-  12 NoSuchMatch      no such match is stored: see slips and bracket
-  13 BadScore         0 to 2 wins each and not both 2, in the playoff 0 to 3 and
-                      not equal, and 0 to 3 draws
-  14 AlreadyReported  the match has a score: correct replaces it
-  15 NotReported      the match has no score to replace: result enters it
-  16 IsBye            table 0 is the bye, whose score stays 2-0-0
-  17 NoSuchPlayer     no player has this number: players lists them
-  18 AlreadyDropped   the player has dropped already
-  19 RoundsNotDone    a round is not paired yet, or has a match with no score
-  20 NoCut            the event was created without a cut: the standings are
-                      the result
-  21 TooFewForCut     fewer players are left than the cut takes: the standings
-                      are the result
-  22 NotPlayoff       the playoff has not begun, or has its champion: cut, or
-                      bracket
-  23 SerialFull       the event has taken 999,999 commands, and takes no more
-  24 Memory           the machine ran out of memory: close something and try
-                      again
-  25 Store            the file could not be read or written: see below
-  26 NeedsReopen      a write failed before: run the command again
-  27 NoEvent          there is no such file, or no event in it: check the path,
-                      or init
-  28 EventExists      the file has an event already: use another FILE
-  29 Damaged          the file has contents that no event can have: go back to
-                      a copy
-  30 BadSetup         NAME must be as for a player, ROUNDS 1 to 12, CUT 0, 2, 4
-                      or 8; for enrol after the start: migrate FILE first
-
-After 25 Store the command is in the file as a whole or not at all. Then, in
-this order:
-  1. Stop what has FILE open: serve, another command, sqlite3.
-  2. ls -l FILE* : is it the event and not a list, and may you write it and its
-     folder?
-  3. df -h . : is there room on the disk?
-  4. Look with players or slips, and send the command again if it isn't there.
-
-The status is 0 if it was done, 1 if it was refused or a CSV is faulty, 2 if the
-words were not understood, 3 for Store, NeedsReopen, a CSV that can't be read,
-or another read or write that failed, and 4 for Memory.
+A command that is taken is answered `ok` and the number of commands so far. One
+that isn't is answered `refused`, a number and a name, and changes nothing: the
+man page has the 30 refusals, with what to do. The status is 0, or 1 if it was
+refused or a list is faulty, 2 for wrong words, 3 if the file or another device
+failed, and 4 for Memory.
 ";
 
 pub const INIT: &str = "\
