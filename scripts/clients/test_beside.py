@@ -14,7 +14,7 @@ from scripts.clients.event_files import copied, due, make_old, rows_left, rows_o
 from scripts.models.plain_file import PLAYERS, tables_of
 from scripts.models.random_play import random_event, version_of
 
-CASES = {"number": (40, 1_000)}
+CASES = {"number": (100, 1_000)}
 
 OURS = {*tables_of(1), *tables_of(2)}
 # what a column may be declared as, and values of each kind
