@@ -78,19 +78,21 @@ def named(text, names, module, found):
 
 
 def clauses_of(crate, function, found):
-    """What each clause of a function's contract names, by the clause's name."""
+    """What each clause of a function's contract names, by the clause's name, or None if there is no such function. A method goes by its type too."""
+    *owner, function = function.split("::")
     for path in sorted(glob.glob(f"{TOP}/crates/{crate}/src/**/*.rt", recursive=True)):
         with open(path, encoding="utf-8") as it:
             text = it.read()
-        head = re.search(rf"^ *(?:pub )?fn {function}\b.*?^ *\{{$", text, re.M | re.S)
-        if head:
+        begun = re.search(rf"^impl\b[^\n]*\b{owner[-1]}\b[^\n]*\{{$", text, re.M) if owner else None
+        head = re.compile(rf"^ *(?:pub )?fn {function}\b.*?^ *\{{$", re.M | re.S).search(text, begun.end() if begun else 0)
+        if head and (begun or not owner):
             names = {}
             for line in re.sub(r"\{\n?(.*?)\}", lambda it: it[0].replace("\n", " "), text, flags=re.S).split("\n"):
                 imported(line, names)
             _, *parts = CLAUSE.split(re.sub(r"//.*", "", head[0]))
             named_so = zip(parts[::2], parts[1::2])
             return {name or "its only one": set(named(clause, names, "", found)) for name, clause in named_so}
-    return {}
+    return None
 
 
 def reached_from(left, found):
@@ -134,6 +136,8 @@ def main():
     if not said.function:
         words.error("name a crate and a function of it, or --twice")
     clauses = clauses_of(said.crate, said.function, found)
+    if clauses is None:
+        words.error(f"crates/{said.crate}/src has no function {said.function}")
     if said.clause and said.clause not in clauses:
         words.error(f"{said.function} has the clauses {', '.join(clauses)}")
     asked = [clauses[said.clause]] if said.clause else clauses.values()
