@@ -1,8 +1,8 @@
 """Reports how long the contracts of the crates are, so that none grows unseen. It refuses nothing.
 
 Of each crate: its functions, their clauses, the lines of these with what stands between them, the lines of bodies without comments and empty ones, and
-the lines of `.rt` and `.antt` files that have too many characters. Then the longest contracts; and the clauses that recur to the letter, whatever
-their labels are: a fifth copy of one is a missing definition.
+the lines of `.rt` and `.antt` files that have too many characters. Then the longest contracts; the clauses that recur to the letter, whatever their
+labels are; and the fields that records of specs share by name: a fifth copy of one is a missing definition, or a missing record.
 """
 import argparse
 import collections
@@ -18,6 +18,8 @@ MOST_LINES, MOST_COPIES, MOST_CHARACTERS = 20, 4, 140
 HEAD = re.compile(r"^( *)(?:pub(?:\([^)]*\))? )?(?:const )?fn (\w+)")
 CLAUSE = re.compile(r"^ *(?:ensures|requires|decreases)\b")
 LABEL = re.compile(r"^(ensures|requires|decreases) \w+ \{")
+RECORD = re.compile(r"^(?:pub )?record (\w+)")
+FIELD = re.compile(r"^  (?:pub )?(\w+) : ")
 LABEL_OF = re.compile(r"^(ensures|requires|decreases)(?: (\w+) \{)?")
 
 
@@ -145,6 +147,33 @@ def print_recurring(functions):
         print(f"{times:5}  {shape}")
 
 
+def fields_in(lines):
+    """Each field of the records in these lines, after its record."""
+    record = None
+    for line in lines:
+        begun, field = RECORD.match(line), FIELD.match(line)
+        if begun:
+            record = begun[1]
+        elif record and field:
+            yield record, field[1]
+        elif re.match(r"\S", line) and not line.startswith("--"):
+            record = None
+
+
+def print_fields(crates):
+    """The fields that more than so many records of specs have by one name."""
+    having = collections.defaultdict(list)
+    for crate in crates:
+        for file, lines in files_of(crate, ".antt"):
+            if file.startswith(f"{crate}/specs/"):
+                for record, field in fields_in(lines):
+                    having[field].append(record)
+    often = sorted(((len(records), field, records) for field, records in having.items() if len(records) > MOST_COPIES), key=lambda it: (-it[0], it[1]))
+    print(f"\n{len(often)} fields that more than {MOST_COPIES} records have by one name, {sum(times for times, *_ in often)} of {sum(map(len, having.values()))}:")
+    for times, field, records in often:
+        print(f"{times:5}  {field}: {', '.join(records)}")
+
+
 def main():
     words = argparse.ArgumentParser(prog="scripts/contracts", description="Reports how long the contracts of all crates are, or of those that are named, and which clauses recur.")
     words.add_argument("names", nargs="*", metavar="NAME", help="a crate")
@@ -162,6 +191,7 @@ def main():
     print_counts(crates, functions)
     print_long(functions)
     print_recurring(functions)
+    print_fields(crates)
 
 
 if __name__ == "__main__":
