@@ -4,6 +4,7 @@ from dataclasses import replace
 from companions.lists import Player
 from companions.sheets.board import (
     AROUND,
+    FOOT,
     HEIGHT,
     LINE,
     SIZE_OF_SEVERAL,
@@ -38,6 +39,13 @@ def test_all_rows_have_room():
         assert layout.rows == (-(-count // layout.columns),) * layout.columns
         assert (layout.rows[0] * (LINE + AROUND) + LINE) * layout.size <= HEIGHT
         assert layout.columns * layout.size < WIDTH
+
+
+def test_where_there_is_no_foot_letters_are_larger():
+    part = by_name([f"Ana Lima {at}" for at in range(37)])
+    layout = layout_of(part, HEIGHT + FOOT)
+    assert layout.size > layout_of(part).size
+    assert (layout.rows[0] * (LINE + AROUND) + LINE) * layout.size <= HEIGHT + FOOT
 
 
 def test_a_list_that_is_too_long_takes_several_looks():

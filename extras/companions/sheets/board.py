@@ -12,8 +12,8 @@ from companions.sheets.parts import Part
 from companions.sheets.widths import width_of
 
 # a screen of 16 by 9, in hundredths of its width, without the margins, the band and the foot, and with room for
-# columns that a browser fills unevenly
-WIDTH, HEIGHT = 96.0, 39.5
+# columns that a browser fills unevenly; and the foot, whose room a list takes where there is none
+WIDTH, HEIGHT, FOOT = 96.0, 39.5, 6.5
 # of the room for a name, what is counted on: letters are a little wider than estimated here and there
 FILLED = 0.95
 # in heights of a letter: between two columns, of a line, around a row
@@ -39,7 +39,8 @@ Row = TypeVar("Row")
 @dataclass(frozen=True)
 class Layout:
     """The size of the letters, in hundredths of the screen's width, the number of columns, and how many rows
-    each has; of standings, whether there is room for the percentages; and whether one look shows all.
+    each has; of standings, whether there is room for the percentages; whether one look shows all; and how high
+    a look is.
     """
 
     size: float
@@ -47,6 +48,7 @@ class Layout:
     has_shares: bool = True
     rows: tuple[int, ...] = ()
     is_whole: bool = True
+    height: float = HEIGHT
 
 
 def rows_of(part: Part) -> list[Names]:
@@ -97,7 +99,7 @@ def room_for(part: Part, layout: Layout) -> float:
 def height_for(layout: Layout) -> float:
     """For the rows of a column."""
     # a line above it has the headings
-    return HEIGHT / layout.size - LINE
+    return layout.height / layout.size - LINE
 
 
 def heights_in(rows: list[Names], part: Part, layout: Layout, may_break: bool) -> Optional[list[float]]:
@@ -117,22 +119,23 @@ def fits(rows: list[Names], part: Part, layout: Layout, may_break: bool) -> bool
     return tallest <= height_for(layout)
 
 
-def layout_of(part: Part) -> Optional[Layout]:
+def layout_of(part: Part, height: float = HEIGHT) -> Optional[Layout]:
     """The largest letters with which all of a list is seen in one look; else those of several looks."""
     rows = rows_of(part)
     if part.kind not in ROOMS or not rows:
         return None
     for may_break in (False, True):
-        found = next((layout for layout in choices_for(part) if fits(rows, part, layout, may_break)), None)
+        found = next((it for it in choices_for(part, height) if fits(rows, part, it, may_break)), None)
         if found:
             in_each = math.ceil(len(rows) / found.columns)
             return replace(found, rows=(in_each,) * found.columns)
-    return layout_of_several(rows, part)
+    return layout_of_several(rows, part, height)
 
 
-def layout_of_several(rows: list[Names], part: Part) -> Layout:
+def layout_of_several(rows: list[Names], part: Part, height: float) -> Layout:
     """As many columns as show the most in a look."""
-    layouts = [Layout(SIZE_OF_SEVERAL, it, not part.standings) for it in range(1, MOST_COLUMNS + 1)]
+    has_shares, columns = not part.standings, range(1, MOST_COLUMNS + 1)
+    layouts = [Layout(SIZE_OF_SEVERAL, it, has_shares, height=height) for it in columns]
     found = [(layout, heights_in(rows, part, layout, layout.columns == 1)) for layout in layouts]
     whole = [(layout, heights) for layout, heights in found if heights]
     layout, heights = max(whole, key=lambda it: it[0].columns / sum(it[1]), default=(layouts[0], [LINE + AROUND]))
@@ -155,9 +158,10 @@ def in_columns(rows: Sequence[Row], layout: Layout) -> list[Sequence[Row]]:
     return [rows[begin:end] for begin, end in zip([0, *ends], ends) if rows[begin:end]]
 
 
-def choices_for(part: Part) -> Iterator[Layout]:
+def choices_for(part: Part, height: float) -> Iterator[Layout]:
     """The best first."""
     columns = range(1, MOST_COLUMNS + 1)
     if part.standings:
-        yield from (Layout(size, it) for size in SIZES if size >= LEAST_WITH_SHARES for it in columns)
-    yield from (Layout(size, it, not part.standings) for size in SIZES for it in columns)
+        with_shares = (size for size in SIZES if size >= LEAST_WITH_SHARES)
+        yield from (Layout(size, it, height=height) for size in with_shares for it in columns)
+    yield from (Layout(size, it, not part.standings, height=height) for size in SIZES for it in columns)

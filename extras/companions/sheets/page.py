@@ -19,7 +19,7 @@ from companions.languages import DEFAULT, Say, say_in
 from companions.languages.marked import text_in
 from companions.look import Look
 from companions.notes import Note, Notes
-from companions.sheets.board import in_columns, layout_of
+from companions.sheets.board import FOOT, HEIGHT, in_columns, layout_of
 from companions.sheets.colours import DARK, LIGHT, PRINTED, variables
 from companions.sheets.parts import (
     SLIP_LETTERS,
@@ -125,6 +125,15 @@ class Board:
     notes: tuple[Note, ...] = ()
     # whether it is sent to another machine, whose clock may go otherwise
     is_sent: bool = False
+
+    @property
+    def has_foot(self) -> bool:
+        return bool(self.foot.reach or self.foot.playing or self.foot.drawn or self.notes)
+
+    @property
+    def height(self) -> float:
+        """Of a part, in hundredths of the screen's width."""
+        return HEIGHT if self.has_foot else HEIGHT + FOOT
 
     @property
     def nobody_finished(self) -> bool:
