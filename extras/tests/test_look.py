@@ -70,7 +70,8 @@ def test_contrast_is_that_of_level_aa_with_each_accent(five, accent):
     for paper in ("paper", "mark"):
         for letters in ("ink", "faint", "accent-ink"):
             assert contrast(colour[letters], colour[paper]) >= 4.5
-    for letters, behind in (("on-band", "band"), ("on-soon", "soon"), ("on-over", "over")):
+    grounds = ("on-band", "band"), ("on-soon", "soon"), ("on-over", "over"), ("on-accent", "accent")
+    for letters, behind in grounds:
         assert contrast(colour[letters], colour[behind]) >= 4.5
     # what a bar shows, beside the rest of it and beside what it stands on
     assert min(contrast(colour["accent-bar"], colour[it]) for it in ("rule", "paper")) >= 3

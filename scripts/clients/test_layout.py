@@ -356,6 +356,28 @@ def test_pictures_are_drawn(room, browser):
     assert (head[1:4], struct.unpack(">II", head[16:24])) == (b"PNG", screen)
 
 
+# how large the letters of a row are
+LETTERS = """
+<script>
+window.onload = () => {
+  const size = what => parseFloat(getComputedStyle(document.querySelector(`.now .looks ${what}`)).fontSize), pre = document.createElement("pre");
+  pre.id = "found";
+  pre.textContent = JSON.stringify([".table", ".name", ".opponent"].map(size));
+  document.body.append(pre);
+};
+</script>
+"""
+
+
+@pytest.mark.needs("the board on a screen", command=BROWSERS)
+@pytest.mark.parametrize("players", [8, 37, 128])
+def test_what_players_look_for_is_the_largest(room, browser, players):
+    """By name, the table is larger than the name, and the name than that of the opponent."""
+    page = pictures.Room(browser, room, room).page(pictures.evening(players), ["names"])
+    table, name, opponent = found_in(browser, room, page, LETTERS, SCREENS[0])
+    assert table > name > opponent >= 0.75 * name
+
+
 # of each look the columns that are seen: the headings from the left to the right, those that don't stand above their cells, and of each row its letter, what
 # leads, and whether it is marked
 COLUMNS = """

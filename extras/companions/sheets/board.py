@@ -22,9 +22,9 @@ SIZES = (2.4, 2.2, 2.05, 1.9, 1.75, 1.6, 1.45, 1.3, 1.2, 1.1, 1.0, 0.9)
 # of a list for which these are too large, so that it takes several looks
 SIZE_OF_SEVERAL = SIZES[-1]
 MOST_COLUMNS = 6
-# of a row: the room that is not for names, and how many names stand side by side
+# of a row: the room that is not for names, and how many names stand side by side; an opponent's is smaller
 ROOMS = {
-    "players": (4.2, 1), "names": (6.6, 2), "tables": (13.0, 2), "standings": (9.8, 1), "seats": (7.6, 1),
+    "players": (4.2, 1), "names": (6.3, 1.8), "tables": (13.0, 2), "standings": (9.8, 1), "seats": (7.6, 1),
     "final": (8.6, 1),
 }
 # and for the record beside a name, and for percentages, which are as large as names or are left out

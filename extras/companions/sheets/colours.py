@@ -7,7 +7,7 @@ from __future__ import annotations
 from typing import Dict
 
 LETTERS, BARS = 4.5, 3.0
-WHITE = "#ffffff"
+WHITE, BLACK = "#ffffff", "#000000"
 
 Colours = Dict[str, str]
 
@@ -62,6 +62,8 @@ def palette(five: Colours, accent: str) -> Colours:
         **five,
         "on-band": WHITE,
         "accent": accent,
+        # one of the two is told from any colour
+        "on-accent": max(BLACK, WHITE, key=lambda letters: contrast(letters, accent)),
         "mark": mark,
         "accent-ink": readable(accent, five["ink"], (five["paper"], mark), LETTERS),
         "accent-bar": readable(accent, five["ink"], (five["paper"], five["rule"]), BARS),
