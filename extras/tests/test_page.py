@@ -105,7 +105,7 @@ def test_the_look_of_an_event(dice):
     read, look = Event(FromModel(event)), Look("<Owls> & more", "#b33a00", "data:image/png;base64,AAAA", True)
     board_text = page_of(read, "Friday", 1, parts_of_board(read), Board(), look=look)
     root = Page(board_text).root
-    assert root.one("p", "subtitle") == "<Owls> & more" and len(root.of("span", "logo")) == 1
+    assert root.one("p", "subtitle") == "<Owls> & more" and len(root.of("img", "logo")) == 1
     assert board_text.count("base64,AAAA") == 1 and f"--paper: {DARK['paper']}" in board_text
     assert "prefers-color-scheme" not in board_text and "--accent: #b33a00" in board_text
     sheets_text = page_of(read, "Friday", 1, ("tables", "names"), look=look)

@@ -100,8 +100,8 @@ class Room:
         event.plan = Plan(TITLE, played.rounds, played.cut)
         return event
 
-    def page(self, played, parts, is_board=True, is_dark=False, **how):
-        return page_maker(Wanted(self.file, parts, is_board=is_board, is_dark=is_dark))(self.event(played, **how))
+    def page(self, played, parts, is_board=True, is_dark=False, title=None, **how):
+        return page_maker(Wanted(self.file, parts, title=title, is_board=is_board, is_dark=is_dark))(self.event(played, **how))
 
     def write(self, name, text):
         with open(f"{self.folder}/{name}", "w", encoding="utf-8") as written:

@@ -356,6 +356,52 @@ def test_pictures_are_drawn(room, browser):
     assert (head[1:4], struct.unpack(">II", head[16:24])) == (b"PNG", screen)
 
 
+# of the band: how far the clock's middle is from the screen's, what is cut or lies beyond it, and which texts lie over others
+BAND = """
+<script>
+window.onload = () => {
+  const box = what => document.querySelector(what).getBoundingClientRect(), band = box(".band"), clock = box(".clock");
+  const cells = [...document.querySelectorAll(".band h1, .band .subtitle, .band .where, .band .hour, .band .logo")].map(it => [it, it.getBoundingClientRect()]);
+  const over = cells.filter(([one, a]) => cells.some(([other, b]) => one !== other && a.left < b.right && b.left < a.right && a.top + 1 < b.bottom && b.top + 1 < a.bottom));
+  const pre = document.createElement("pre");
+  pre.id = "found";
+  pre.textContent = JSON.stringify({
+    aside: (clock.left + clock.right) / 2 - innerWidth / 2,
+    beyond: cells.filter(([it, a]) => a.top < band.top || a.bottom > band.bottom || a.right > innerWidth).map(([it]) => it.className || it.tagName),
+    over: over.map(([it]) => it.className || it.tagName),
+  });
+  document.body.append(pre);
+};
+</script>
+"""
+# pictures of so many pixels
+LOGOS = {"none": None, "wide": (600, 100), "square": (200, 200), "high": (80, 400)}
+TITLES = {
+    "short": ("Friday Night", "Modern"),
+    "wide": ("W" * 60, "Modern, " * 12),
+    "long": ("The great Friday of the Owls of Athens, with all its guests", ""),
+}
+
+
+@pytest.mark.needs("the board on a screen", command=BROWSERS)
+@pytest.mark.parametrize("logo", LOGOS)
+@pytest.mark.parametrize("words", TITLES)
+def test_the_band_has_room_for_each_logo_and_title(room, browser, logo, words):
+    """The clock stays in the middle, and all else is beside it, and in the band."""
+    title, subtitle = TITLES[words]
+    look = f"subtitle = {subtitle}\n" if subtitle else ""
+    if LOGOS[logo]:
+        width, height = LOGOS[logo]
+        with open(f"{room}/logo.svg", "w") as it:
+            it.write(f'<svg xmlns="http://www.w3.org/2000/svg" width="{width}" height="{height}"><rect width="{width}" height="{height}"/></svg>')
+        look += "logo = logo.svg\n"
+    page = pictures.Room(browser, room, room).page(pictures.evening(8), ["tables"], look=look, title=title)
+    for screen in SCREENS[:2]:
+        found = found_in(browser, room, page, BAND, screen)
+        assert abs(found["aside"]) <= 1, "the clock is in the middle"
+        assert (found["beyond"], found["over"]) == ([], []), "all lies in the band, and nothing over anything"
+
+
 # how large the letters of a row are
 LETTERS = """
 <script>

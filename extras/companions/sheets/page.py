@@ -42,6 +42,8 @@ TEMPLATES.globals.update(
 )
 # this many tables that still play are named beneath a board
 MOST_STILL = 30
+# a title of more letters stands in smaller ones, so that the band has room for it
+LONG_TITLE = 36
 # a board loads itself again so often
 SECONDS_TO_RELOAD = 20
 
@@ -246,6 +248,7 @@ def rendered(
         now=now,
         seconds=SECONDS_TO_RELOAD,
         slip_letters=SLIP_LETTERS,
+        long_title=LONG_TITLE,
     )
     return text
 
