@@ -464,7 +464,7 @@ window.onload = () => {
 """
 HEADS = {
     "names": ["Table", "Player", "Opponent"],
-    "tables": ["Table", "No", "Named first", "No", "Second", "Score"],
+    "tables": ["Table", "No", "Named first", "No", "Named second", "Score"],
     "seats": ["Table", "Name", "No"],
     "standings": ["Rank", "No", "Name", "W-L-D", "Pts"],
     "final": ["Rank", "No", "Name", "W-L-D", "Pts"],

@@ -134,7 +134,7 @@ def test_parts(sheets, program, room, dice, stand_in):
     file = laid(program.path, f"{room}/e.event", event, "E")
     assert list(page_of(sheets, file, "--parts", "standings,tables").parts()) == ["standings", "tables"], "parts that are named"
     seats = page_of(sheets, file, "--parts", "seats", "--title", "E").parts()["seats"]
-    assert (heading(seats), shown_rows(seats)) == (("E", f"Seats for the players' meeting: {len(event.names)}"), seat_rows(event)), "seats"
+    assert (heading(seats), shown_rows(seats)) == (("E", "Seats for the players' meeting"), seat_rows(event)), "seats"
     calls = f"{room}/calls"
     page_of(sheets, file, "--parts", "slips", "--program", stand_in(f'echo "$1 $3" >> {calls}\nexec "$REAL" "$@"'))
     assert sorted(open(calls).read().splitlines()) == ["bracket ", "export players", "export results"], "what is asked for slips"

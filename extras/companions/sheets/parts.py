@@ -313,8 +313,7 @@ def seats_part(event: Event, by_first: bool, reach: Optional[Reach], say: Say) -
     """Where each player sits at the players' meeting: two at a table, by name."""
     players = players_part(event, by_first, say)
     rows = tuple(replace(row, table=str(at // 2 + 1)) for at, row in enumerate(players.names))
-    what = say("seats_count", count=len(rows))
-    return Part("seats", what, names=rows, drawn=players.drawn, reach=reach)
+    return Part("seats", say("seats"), names=rows, drawn=players.drawn, reach=reach)
 
 
 def own_page(player: Player, enrolled: Player, secret: Secret) -> OwnPage:
