@@ -7,17 +7,16 @@ that library's version.
 import os
 import re
 import subprocess
-import sys
 import tempfile
 
 from scripts.bench.evenings import enrolled, played, seed, to_the_champion
+from scripts.words import PROGRAM, Word, given_by
 
-program, *peers = map(os.path.abspath, sys.argv[1:])
 WITHOUT_REP = {**os.environ, "GLIBC_TUNABLES": "glibc.cpu.hwcaps=-ERMS,-FSRM"}
 ROUNDS = 9
 
 
-def count(words, lines=(), program=program):
+def count(program, words, lines=()):
     """The instructions, in millions, of a run with these words and these lines on its input."""
     script = "".join(f"{line}\n" for line in lines).encode()
     with tempfile.TemporaryDirectory() as room:
@@ -26,17 +25,12 @@ def count(words, lines=(), program=program):
     return int(re.search(rb"Collected : (\d+)", ran.stderr)[1]) / 1_000_000
 
 
-def one_more(lines, *more, program=program):
+def one_more(program, lines, *more):
     """What more lines of a script cost."""
-    return count([], [*lines, *more], program) - count([], lines, program)
+    return count(program, [], [*lines, *more]) - count(program, [], lines)
 
 
-def beside(name, counted):
-    """Prints what is counted of the program, and of each peer."""
-    print(f"{name}: {', '.join(f'{counted(it):.1f}' for it in (program, *peers))}", flush=True)
-
-
-def event_file(room, players):
+def event_file(program, room, players):
     """A file of an event after all its rounds, by command lines."""
     path, names = f"{room}/event", f"{room}/names.csv"
     with open(names, "w", encoding="utf-8") as it:
@@ -50,20 +44,42 @@ def event_file(room, players):
     return path
 
 
-print("millions of instructions")
-beside("512 enrolments", lambda it: count([], enrolled(512, ROUNDS), it))
-beside("512 players over nine rounds", lambda it: count([], played(512, ROUNDS), it))
-beside("`standings` after them", lambda it: one_more(played(512, ROUNDS), "standings", program=it))
-beside("500 `standings` after one round", lambda it: one_more(played(512, 1), *["standings"] * 500, program=it))
-beside("`standings` after each result of 64 players", lambda it: count([], played(64, ROUNDS, after_each=["standings"]), it))
-beside("32 players to the champion", lambda it: count([], to_the_champion(32, 5, 8), it))
-with tempfile.TemporaryDirectory() as room:
-    path = event_file(room, 512)
-    print(f"`players` over a file of 512 players after nine rounds: {count(['players', path]):.1f}")
-    print(f"`standings` over the same file: {count(['standings', path]):.1f}")
-    print(f"`correct` over the same file: {count(['correct', path, '9', '1', '2', '0', '0']):.1f}")
-for players in (64, 128, 256, 512):
+def count_scripts(programs):
+    """What is counted of the program, and of each peer."""
+
+    def beside(name, counted):
+        print(f"{name}: {', '.join(f'{counted(it):.1f}' for it in programs)}", flush=True)
+
+    beside("512 enrolments", lambda it: count(it, [], enrolled(512, ROUNDS)))
+    beside("512 players over nine rounds", lambda it: count(it, [], played(512, ROUNDS)))
+    beside("`standings` after them", lambda it: one_more(it, played(512, ROUNDS), "standings"))
+    beside("500 `standings` after one round", lambda it: one_more(it, played(512, 1), *["standings"] * 500))
+    beside("`standings` after each result of 64 players", lambda it: count(it, [], played(64, ROUNDS, after_each=["standings"])))
+    beside("32 players to the champion", lambda it: count(it, [], to_the_champion(32, 5, 8)))
+
+
+def count_lines(program):
+    with tempfile.TemporaryDirectory() as room:
+        path = event_file(program, room, 512)
+        print(f"`players` over a file of 512 players after nine rounds: {count(program, ['players', path]):.1f}")
+        print(f"`standings` over the same file: {count(program, ['standings', path]):.1f}")
+        print(f"`correct` over the same file: {count(program, ['correct', path, '9', '1', '2', '0', '0']):.1f}")
+
+
+def count_last_round(program, players):
     whole, cut = played(players, ROUNDS), played(players, ROUNDS, 8)
     before = whole[: -players // 2 - 1]
-    pair, last, seeds = one_more(before, f"pair\t{ROUNDS}\t{seed(ROUNDS)}"), one_more(whole[:-1], whole[-1]), one_more(cut, "cut")
-    print(f"{players} players: pair of round nine {pair:.2f}, its last result {last:.2f}, cut to 8 {seeds:.2f}")
+    pair, last = one_more(program, before, f"pair\t{ROUNDS}\t{seed(ROUNDS)}"), one_more(program, whole[:-1], whole[-1])
+    print(f"{players} players: pair of round nine {pair:.2f}, its last result {last:.2f}, cut to 8 {one_more(program, cut, 'cut'):.2f}")
+
+
+def main(program, peers):
+    print("millions of instructions")
+    count_scripts([program, *peers])
+    count_lines(program)
+    for players in (64, 128, 256, 512):
+        count_last_round(program, players)
+
+
+if __name__ == "__main__":
+    main(**given_by(__doc__, program=PROGRAM, peers=Word(os.path.abspath, "a program that is counted beside it", "*")))

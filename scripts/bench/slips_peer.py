@@ -3,19 +3,16 @@ GET /standings and POST /rounds/ROUND/tables/TABLE from an event's file, which i
 common denominator, so the standings are exact. They are worked out here and not by the model of scripts/models on purpose: the model is slow, and
 this is to be as fast as it is easily made.
 """
+import argparse
 import http.server
 import json
 import math
 import re
 import sqlite3
-import sys
 
 # over it each average of at most 12 shares is whole
 WHOLE = 3 * math.lcm(*range(1, 73)) * math.lcm(*range(1, 13))
 LEAST = WHOLE * 33 // 100
-
-base = sqlite3.connect(sys.argv[1], isolation_level=None)
-base.execute("PRAGMA synchronous = FULL")
 
 
 def share(points, parts):
@@ -27,7 +24,7 @@ def printed(value):
     return f"{n // 100}.{n % 100:02}"
 
 
-def standings():
+def standings(base):
     players = base.execute("SELECT no, name, dropped FROM player2 ORDER BY no").fetchall()
     joined = base.execute("SELECT no, joined FROM player2 WHERE joined > 0").fetchall()
     rows = base.execute("SELECT round, lo, hi, swapped, done, x, y, d FROM pairing").fetchall()
@@ -69,7 +66,7 @@ def standings():
     return text.encode()
 
 
-def report(number, table, score):
+def report(base, number, table, score):
     """Stores a score if there is none, and gives the serial."""
     base.execute("BEGIN IMMEDIATE")
     values = score["a"], score["b"], score["d"], number, table
@@ -95,17 +92,28 @@ class Handler(http.server.BaseHTTPRequestHandler):
         self.wfile.write(body)
 
     def do_GET(self):
-        self.send(200, "text/plain; charset=utf-8", standings())
+        self.send(200, "text/plain; charset=utf-8", standings(self.server.base))
 
     def do_POST(self):
         number, table = re.fullmatch("/rounds/([0-9]+)/tables/([0-9]+)", self.path).groups()
-        serial = report(int(number), int(table), json.loads(self.rfile.read(int(self.headers["Content-Length"]))))
+        serial = report(self.server.base, int(number), int(table), json.loads(self.rfile.read(int(self.headers["Content-Length"]))))
         self.send(200 if serial else 409, "application/json", json.dumps({"serial": serial}, separators=(",", ":")).encode())
 
     def log_message(self, *_):
         pass
 
 
-with http.server.HTTPServer(("127.0.0.1", 0), Handler) as server:
-    print(f"listening {server.server_port}", flush=True)
-    server.serve_forever()
+def main():
+    # it is started by its path, and so knows no module of the scripts
+    words = argparse.ArgumentParser(description=__doc__)
+    words.add_argument("file", metavar="FILE", help="the event's file")
+    base = sqlite3.connect(words.parse_args().file, isolation_level=None)
+    base.execute("PRAGMA synchronous = FULL")
+    with http.server.HTTPServer(("127.0.0.1", 0), Handler) as server:
+        server.base = base
+        print(f"listening {server.server_port}", flush=True)
+        server.serve_forever()
+
+
+if __name__ == "__main__":
+    main()

@@ -7,8 +7,8 @@ import sys
 import time
 
 from scripts.bench.evenings import enrolled, played, to_the_champion
+from scripts.words import Word, given_by
 
-RUNS, PROGRAMS = int(sys.argv[1]), sys.argv[2:]
 CASES = {
     "512 enrolments": enrolled(512, 9),
     "512 players over nine rounds": played(512, 9),
@@ -27,19 +27,25 @@ def run(program, script):
     return time.perf_counter() - start, (ran.returncode, ran.stdout)
 
 
-wrong = 0
-print(f"best of {RUNS} runs each, in milliseconds, with the start of the process: {', '.join(map(os.path.basename, PROGRAMS))}")
-for name, lines in CASES.items():
-    script = "".join(f"{line}\n" for line in lines).encode()
-    times, said = {it: [] for it in PROGRAMS}, {}
-    for _ in range(RUNS):
-        for program in PROGRAMS:
-            taken, said[program] = run(program, script)
-            times[program].append(taken)
-    first = said[PROGRAMS[0]]
-    if any(it != first for it in said.values()) or b"refused" in first[1] or b"usage" in first[1]:
-        wrong += 1
-        print(f"{name}: they differ, or a command was refused", file=sys.stderr)
-    ours, *others = [1000 * min(it) for it in times.values()]
-    print(f"{name:<50} {ours:9.1f}", *[f"{it:9.1f} {ours / it:6.1f} times" for it in others])
-sys.exit(1 if wrong else 0)
+def main(runs, programs):
+    wrong = 0
+    print(f"best of {runs} runs each, in milliseconds, with the start of the process: {', '.join(map(os.path.basename, programs))}")
+    for name, lines in CASES.items():
+        script = "".join(f"{line}\n" for line in lines).encode()
+        times, said = {it: [] for it in programs}, {}
+        for _ in range(runs):
+            for program in programs:
+                taken, said[program] = run(program, script)
+                times[program].append(taken)
+        first = said[programs[0]]
+        if any(it != first for it in said.values()) or b"refused" in first[1] or b"usage" in first[1]:
+            wrong += 1
+            print(f"{name}: they differ, or a command was refused", file=sys.stderr)
+        ours, *others = [1000 * min(it) for it in times.values()]
+        print(f"{name:<50} {ours:9.1f}", *[f"{it:9.1f} {ours / it:6.1f} times" for it in others])
+    return 1 if wrong else 0
+
+
+if __name__ == "__main__":
+    programs = Word(os.path.abspath, "the program, and those that are timed beside it", "+")
+    sys.exit(main(**given_by(__doc__, runs=Word(int, "how often each runs"), programs=programs)))

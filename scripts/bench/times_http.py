@@ -13,9 +13,8 @@ import time
 from scripts import TOP
 from scripts.clients.serving import Serving, received, sent_whole
 from scripts.models.plain_event import Event
+from scripts.words import PROGRAM, Word, given_by
 
-program = sys.argv[1]
-ASKED = int(sys.argv[2]) if len(sys.argv) > 2 else 100
 PLAYERS, ROUNDS = 512, 9
 SCORES = [(2, 0, 0), (1, 2, 0), (2, 1, 0), (0, 2, 0), (1, 1, 1)]
 GET = b"GET /standings HTTP/1.1\r\n\r\n"
@@ -49,7 +48,7 @@ def tallies(is_open):
     return [(it, *event.totals(it)) for it in event.numbers()]
 
 
-def made(file, is_open):
+def made(program, file, is_open):
     subprocess.run([program, "init", file, "Friday", str(ROUNDS), "0"], check=True, stdout=subprocess.DEVNULL)
     base = sqlite3.connect(file)
     base.executemany("INSERT INTO player2 VALUES (?, ?, 0, 0)", ((it, f"N{it}") for it in range(1, PLAYERS + 1)))
@@ -74,7 +73,7 @@ def post(table):
     return b'POST /rounds/%d/tables/%d HTTP/1.1\r\nContent-Length: 19\r\n\r\n{"a":2,"b":1,"d":0}' % (ROUNDS, table)
 
 
-def compare(name, file, requests):
+def compare(program, name, file, requests):
     """Sends each request to both, and prints what they took."""
     other = shutil.copy(file, f"{file}.peer")
     ours, theirs = [], []
@@ -89,8 +88,13 @@ def compare(name, file, requests):
     print(f"{name:<55} {best:9.2f} {other:9.2f}   {best / other:6.2f} times")
 
 
-print(f"medians of {ASKED} requests each, in milliseconds: the program, and Python's http.server")
-with tempfile.TemporaryDirectory() as room:
-    compare(f"GET /standings of {PLAYERS} players after nine rounds", made(f"{room}/nine", False), [GET] * ASKED)
-    scores = [post(table) for table in range(1, min(ASKED, PLAYERS // 2) + 1)]
-    compare(f"POST of a score among {PLAYERS} players, in round nine", made(f"{room}/open", True), scores)
+def main(program, count):
+    print(f"medians of {count} requests each, in milliseconds: the program, and Python's http.server")
+    with tempfile.TemporaryDirectory() as room:
+        compare(program, f"GET /standings of {PLAYERS} players after nine rounds", made(program, f"{room}/nine", False), [GET] * count)
+        scores = [post(table) for table in range(1, min(count, PLAYERS // 2) + 1)]
+        compare(program, f"POST of a score among {PLAYERS} players, in round nine", made(program, f"{room}/open", True), scores)
+
+
+if __name__ == "__main__":
+    main(**given_by(__doc__, program=PROGRAM, count=Word(int, "how many requests of each kind; without it 100", "?", 100)))

@@ -12,7 +12,6 @@ import http.client
 import os
 import random
 import socket
-import sys
 import tempfile
 import threading
 import time
@@ -22,15 +21,15 @@ from scripts.clients.program import Program
 from scripts.clients.proxies import Proxied, command_of
 from scripts.clients.random_evenings import STARTED, evening, laid, report_round
 from scripts.clients.tally import check, end, left_out
+from scripts.words import PROGRAM, Word, given_by
 
-program = os.path.abspath(sys.argv[1])
 SECONDS, SILENT = 60, 900
 # connections of the phone that asks for the board again and again, and requests through a proxy
 GREEDY, BEHIND, AT_ONCE = 24, 5_000, 32
 LISTS = "/board", "/pairings", "/standings"
 
 
-def third_round(room, players):
+def third_round(program, room, players):
     dice = random.Random(players)
     event = evening(dice, players, STARTED, 9, 0)
     for number in (1, 2, 3):
@@ -78,7 +77,7 @@ def together(works):
     return time.perf_counter() - begun
 
 
-def played(name, file, waits):
+def played(name, program, file, waits):
     """All phones at these times."""
     dice = random.Random(1)
     with Gateway(program, file) as gateway:
@@ -95,7 +94,7 @@ def played(name, file, waits):
     print(f"    a page {spread([seconds for it in phones.values() for seconds in it.pages])}; {memory}", flush=True)
 
 
-def in_turn(name, gateway, file):
+def in_turn(name, gateway, program, file):
     """How long each of some scores takes, one after the other."""
     seconds = []
     for table, target in list(targets(program, file).items())[:60]:
@@ -106,11 +105,11 @@ def in_turn(name, gateway, file):
     return seconds
 
 
-def one_by_one(name, file, silent):
+def one_by_one(name, program, file, silent):
     """Scores in turn, beside connections of one other address that send nothing."""
     with Gateway(program, file) as gateway:
         held = [socket.create_connection(("127.0.0.1", gateway.port), source_address=("127.0.99.9", 0)) for _ in range(silent)]
-        seconds = in_turn(name, gateway, file)
+        seconds = in_turn(name, gateway, program, file)
         for it in held:
             it.close()
         print(f"{name}: {len(seconds)} scores in turn, {spread(seconds)}; {memory_of(gateway.process.pid)}", flush=True)
@@ -128,7 +127,7 @@ def fetched(gateway, target, source):
         connection.close()
 
 
-def opened_at_once(name, file, pages):
+def opened_at_once(name, program, file, pages):
     """Each of this many phones opens these pages, all at once."""
     with Gateway(program, file) as gateway:
         aims = list(targets(program, file))
@@ -146,7 +145,7 @@ def opened_at_once(name, file, pages):
         print(f"{name}: {len(aims)} phones, all answered after {took:.1f} s; a phone {spread(seconds)}; {memory_of(gateway.process.pid)}", flush=True)
 
 
-def beside_greedy(name, file):
+def beside_greedy(name, program, file):
     """Scores in turn, while one phone asks for the board over many connections without a pause."""
     with Gateway(program, file) as gateway:
         is_over, got = threading.Event(), []
@@ -159,14 +158,14 @@ def beside_greedy(name, file):
         threads = [threading.Thread(target=ask, daemon=True) for _ in range(GREEDY)]
         for it in threads:
             it.start()
-        seconds = in_turn(name, gateway, file)
+        seconds = in_turn(name, gateway, program, file)
         is_over.set()
         for it in threads:
             it.join()
         print(f"{name}: {len(seconds)} scores in turn, {spread(seconds)}; {len(got)} boards asked for, {got.count(200)} answered; {memory_of(gateway.process.pid)}", flush=True)
 
 
-def behind(kind, file, room):
+def behind(kind, program, file, room):
     """Pages and scores through a proxy: whether any is answered that the gateway failed."""
     if not command_of(kind):
         left_out(f"phones behind {kind}", f"{kind} is not installed")
@@ -188,23 +187,24 @@ def behind(kind, file, room):
     check(f"behind {kind}: all are stored", {table for (number, table), score in stored.items() if number == 3 and score}, set(aims))
 
 
-def main(players):
+def main(program, players):
     with tempfile.TemporaryDirectory() as room:
-        base = third_round(room, players)
+        base = third_round(program, room, players)
         Program(program).run("players", base)
         print(f"{players} players; load {os.getloadavg()[0]:.1f}")
         fresh = lambda name: copied_event(base, f"{room}/{name}.event")
-        one_by_one("alone", fresh("alone"), 0)
-        one_by_one(f"beside {SILENT} silent connections", fresh("silent"), SILENT)
-        played("all at once", fresh("once"), lambda _: 0.0)
-        played("in a minute", fresh("minute"), lambda dice: SECONDS * dice.random())
-        beside_greedy("beside one phone that asks for the board", fresh("greedy"))
-        opened_at_once("the board", fresh("board"), ["/board"])
-        opened_at_once("the board and the lists", fresh("lists"), LISTS)
-        opened_at_once("a player's page", fresh("own"), [])
+        one_by_one("alone", program, fresh("alone"), 0)
+        one_by_one(f"beside {SILENT} silent connections", program, fresh("silent"), SILENT)
+        played("all at once", program, fresh("once"), lambda _: 0.0)
+        played("in a minute", program, fresh("minute"), lambda dice: SECONDS * dice.random())
+        beside_greedy("beside one phone that asks for the board", program, fresh("greedy"))
+        opened_at_once("the board", program, fresh("board"), ["/board"])
+        opened_at_once("the board and the lists", program, fresh("lists"), LISTS)
+        opened_at_once("a player's page", program, fresh("own"), [])
         for kind in ("caddy", "nginx"):
-            behind(kind, fresh(kind), room)
+            behind(kind, program, fresh(kind), room)
     end("times of phones")
 
 
-main(int(sys.argv[2]) if len(sys.argv) > 2 else 512)
+if __name__ == "__main__":
+    main(**given_by(__doc__, program=PROGRAM, players=Word(int, "how many play; without it 512", "?", 512)))

@@ -16,7 +16,6 @@ import shutil
 import signal
 import socket
 import subprocess
-import sys
 import tempfile
 import threading
 import time
@@ -27,6 +26,7 @@ from scripts.clients.serving import Serving, received, sent_to_the_end, sent_who
 from scripts.clients.tally import check, end, left_out
 from scripts.models.plain_event import Event
 from scripts.models.plain_http import served as served_plainly
+from scripts.words import PROGRAM, given_by
 
 # the seconds that a read, a request, an answer and a whole connection may take, and those in which it is read on after its answer
 READ, REQUEST, WRITE, WHOLE, REST = 1, 5, 10, 30, 0.5
@@ -335,4 +335,5 @@ def main(program):
     end("slow clients, at the program as it is built")
 
 
-main(sys.argv[1])
+if __name__ == "__main__":
+    main(**given_by(__doc__, program=PROGRAM))

@@ -29,6 +29,7 @@ from scripts.models import plain_file
 from scripts.models.plain_event import PLAYOFF, SWISS, Event
 from scripts.models.plain_log import FRAME, HEAD, committed
 from scripts.models.random_play import random_event, version_of
+from scripts.words import LIBRARY, PROGRAM, SEED, Word, given_by
 
 READINGS = ("standings", "players", "bracket")
 WRONGLY = "wrongly"
@@ -292,4 +293,6 @@ def main(program, library, count, seed, jobs, templates, longest):
 
 
 if __name__ == "__main__":
-    main(*sys.argv[1:3], *map(int, sys.argv[3:]))
+    count, jobs = Word(int, "how many damages are tried"), Word(int, "how many at once")
+    templates, longest = Word(int, "how many random events have files that are damaged"), Word(int, "how many enrolments each of them has at most, and how many other commands")
+    main(**given_by(__doc__, program=PROGRAM, library=LIBRARY, count=count, seed=SEED, jobs=jobs, templates=templates, longest=longest))

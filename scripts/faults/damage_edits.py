@@ -11,7 +11,6 @@ import os
 import shutil
 import sqlite3
 import subprocess
-import sys
 import tempfile
 
 from scripts.clients.event_files import bytes_in, copied, due, make_old
@@ -19,11 +18,11 @@ from scripts.clients.program import Program
 from scripts.clients.tally import check, end, left_out
 from scripts.models import plain_file
 from scripts.models.plain_event import Event
+from scripts.words import PROGRAM, Word, given_by
 
-program, takes_all = os.path.abspath(sys.argv[1]), sys.argv[2:] == ["all"]
-ZERO = "0" * 64
+ZERO, ALL = "0" * 64, "all"
 OLD, NEW, MOVED = LAYOUTS = ("old", "new", "moved")
-Good = collections.namedtuple("Good", "file event writing")
+Good = collections.namedtuple("Good", "program file event writing")
 # the table at fault, or None if there is no event at all; or that of each kind of file on which the edit is tried. {player} is the table of players
 Edit = collections.namedtuple("Edit", "example table what sql")
 
@@ -205,20 +204,20 @@ def with_file(words, file):
     return [name, file, *rest]
 
 
-def made(example, room):
+def made(program, example, room):
     """The file of a worked example, made by command lines, and its event."""
     rounds, cut, names, lines, writing = EXAMPLES[example]
     file, event = f"{room}/{example}/e.event", Event(rounds, cut)
     os.mkdir(os.path.dirname(file))
-    check(f"example {example}, init", Program(program).run("init", file, "Friday", str(rounds), str(cut)), due(["ok 0"]))
+    check(f"example {example}, init", program.run("init", file, "Friday", str(rounds), str(cut)), due(["ok 0"]))
     for name in names:
-        check(f"example {example}, {name}", Program(program).run("enrol", file, name), due(event.enrol(name)))
+        check(f"example {example}, {name}", program.run("enrol", file, name), due(event.enrol(name)))
     if lines is not None:
-        check(f"example {example}, start", Program(program).run("start", file), due(event.start()))
-        check(f"example {example}, pair", Program(program).run("pair", file, "1", ZERO), due(event.pair(1, bytes(32))))
+        check(f"example {example}, start", program.run("start", file), due(event.start()))
+        check(f"example {example}, pair", program.run("pair", file, "1", ZERO), due(event.pair(1, bytes(32))))
         for words in lines:
-            check(f"example {example}, {words}", Program(program).run(*with_file(words, file)), due(command(event, words)))
-    return Good(file, event, writing)
+            check(f"example {example}, {words}", program.run(*with_file(words, file)), due(command(event, words)))
+    return Good(program, file, event, writing)
 
 
 def old_and_moved(example, new, room):
@@ -229,15 +228,15 @@ def old_and_moved(example, new, room):
     for file in files:
         os.mkdir(os.path.dirname(file))
         make_old(file, event, name="Friday")
-    check(f"example {example}, migrate", Program(program).run("migrate", files[1]), due([f"ok {event.serial}"]))
-    return Good(files[0], event, new.writing), Good(files[1], new.event, new.writing)
+    check(f"example {example}, migrate", new.program.run("migrate", files[1]), due([f"ok {event.serial}"]))
+    return new._replace(file=files[0], event=event), new._replace(file=files[1])
 
 
-def all_made(room):
+def all_made(program, room):
     """The files of the worked examples, as each of the layouts has them."""
     goods = {}
     for example in EXAMPLES:
-        goods[example, NEW] = made(example, room)
+        goods[example, NEW] = made(program, example, room)
         if not goods[example, NEW].event.late:
             goods[example, OLD], goods[example, MOVED] = old_and_moved(example, goods[example, NEW], room)
     return goods
@@ -248,10 +247,10 @@ def check_good(name, good):
     with tempfile.TemporaryDirectory() as room:
         check(f"{name}, read plainly", vars(plain_file.read(copied(good.file, room))), vars(good.event))
     for text in ("players", "standings"):
-        check(f"{name}, {text}", Program(program).run(text, good.file), due(getattr(good.event, text)()))
+        check(f"{name}, {text}", good.program.run(text, good.file), due(getattr(good.event, text)()))
     with tempfile.TemporaryDirectory() as room:
         answer = due(command(copy.deepcopy(good.event), good.writing))
-        check(f"{name}, {good.writing}", Program(program).run(*with_file(good.writing, copied(good.file, room))), answer)
+        check(f"{name}, {good.writing}", good.program.run(*with_file(good.writing, copied(good.file, room))), answer)
 
 
 def by_python(file, sql):
@@ -281,7 +280,7 @@ def run_in_copy(name, how, sql, good, refusals):
         how(file, sql)
         before = bytes_in(room)
         for words in ("players", "standings", good.writing):
-            got = Program(program).run(*with_file(words, file))
+            got = good.program.run(*with_file(words, file))
             check(f"{name}, {words}", got in refusals or got, True)
         check(f"{name}, the file stays, and no log is left", bytes_in(room) == before, True)
         return table_at_fault(file)
@@ -311,23 +310,24 @@ def run_lawful(what, sql, good):
         by_python(file, told_in(good, sql))
         event = plain_file.read(file)
         for text in ("players", "standings"):
-            check(f"{what}, {text}", Program(program).run(text, file), due(getattr(event, text)()))
+            check(f"{what}, {text}", good.program.run(text, file), due(getattr(event, text)()))
 
 
-def layouts_of(edit):
+def layouts_of(edit, takes_all):
     """The kinds of file on which an edit is tried."""
     if isinstance(edit.table, dict):
         return list(edit.table)
     return LAYOUTS if takes_all else (OLD, NEW)
 
 
-def main():
+def main(program, which):
+    takes_all = which == ALL
     with tempfile.TemporaryDirectory() as room:
-        goods = all_made(room)
+        goods = all_made(Program(program), room)
         for (example, layout), good in goods.items():
             check_good(f"example {example}, {layout}", good)
         for edit in EDITS:
-            for layout in layouts_of(edit):
+            for layout in layouts_of(edit, takes_all):
                 run_edit(by_python, edit, layout, goods[edit.example, layout])
         for example, what, sql in UNWHOLE:
             for layout in (OLD, NEW):
@@ -337,11 +337,13 @@ def main():
                 run_lawful(f"{what}, {layout}", sql, goods[example, layout])
         by_hand = (EDITS if takes_all else WORKED) if shutil.which("sqlite3") else []
         for edit in by_hand:
-            for layout in layouts_of(edit):
+            for layout in layouts_of(edit, takes_all):
                 run_edit(by_command, edit, layout, goods[edit.example, layout])
     if not by_hand:
         left_out("damages by the command sqlite3", "it is not installed")
     end(f"one edit in a good file: {len(EDITS)} edits, and {len(UNWHOLE)} that a CHECK forbids; by the command sqlite3 {len(by_hand)} of them")
 
 
-main()
+if __name__ == "__main__":
+    which = Word(str, f"{ALL}: each edit by the command sqlite3 too, and on each kind of file", "?", "")
+    main(**given_by(__doc__, program=PROGRAM, which=which))

@@ -14,6 +14,7 @@ from scripts.clients.program import Program
 from scripts.clients.serving import Serving, free_port, received, sent_whole
 from scripts.models.plain_event import Event
 from scripts.models.plain_http import served as served_plainly
+from scripts.words import PROGRAM, SEED, Word, given_by
 
 SCORES = [(2, 0, 0), (2, 1, 0), (1, 2, 0), (0, 2, 0), (1, 1, 1), (0, 0, 3)]
 
@@ -152,4 +153,5 @@ def main(program, count, seed):
     return 1 if stops.wrong else 0
 
 
-sys.exit(main(sys.argv[1], int(sys.argv[2]), int(sys.argv[3])))
+if __name__ == "__main__":
+    sys.exit(main(**given_by(__doc__, program=PROGRAM, count=Word(int, "how many stops are made"), seed=SEED)))

@@ -6,7 +6,6 @@ import contextlib
 import importlib.util
 import os
 import signal
-import sys
 import tempfile
 import time
 
@@ -15,6 +14,7 @@ from scripts.clients.serving import hear_interrupts
 from scripts.clients.tally import check, dice_of, end, left_out
 from scripts.clients.waiting import comes
 from scripts.models.plain_file import read
+from scripts.words import PROGRAM, SEED, Word, given_by
 
 
 def kill(program, room, dice, turns, sizes):
@@ -75,17 +75,16 @@ def kill_children(gateway, burst, dice):
     return kills
 
 
-def main():
-    program, turns, seed = os.path.abspath(sys.argv[1]), int(sys.argv[2]), sys.argv[3]
+def main(program, bursts, seed):
     hear_interrupts()
     for module, package in (("jinja2", "python3-jinja2"), ("waitress", "python3-waitress")):
         if importlib.util.find_spec(module) is None:
             left_out("kills of what takes scores from phones", f"{package} is not installed")
             return
     with tempfile.TemporaryDirectory() as room:
-        kill(program, room, dice_of(seed), turns, (64, 512) if turns > 100 else (64,))
+        kill(program, room, dice_of(seed), bursts, (64, 512) if bursts > 100 else (64,))
     end("scores from phones, and kills")
 
 
 if __name__ == "__main__":
-    main()
+    main(**given_by(__doc__, program=PROGRAM, bursts=Word(int, "how many bursts of scores, each with its kills"), seed=SEED))

@@ -6,7 +6,6 @@ event is.
 import contextlib
 import os
 import subprocess
-import sys
 import tempfile
 import time
 
@@ -17,6 +16,7 @@ from scripts.clients.tally import check, dice_of, end
 from scripts.clients.waiting import comes
 from scripts.models.plain_event import Event
 from scripts.models.plain_file import read
+from scripts.words import PROGRAM, SEED, Word, given_by
 
 KILLED = [f"enrol P{it}" for it in range(1, 6)] + [
     "start",
@@ -103,13 +103,12 @@ def kill(prompt, room, dice, count):
     print(f"kills: {count}, at {len(stopped)} places of the script")
 
 
-def main():
-    program, count, seed = sys.argv[1:]
-    prompt, dice = Prompt(os.path.abspath(program), f"{TOP}/extras/event-desk"), dice_of(int(seed))
+def main(program, count, seed):
+    prompt, dice = Prompt(program, f"{TOP}/extras/event-desk"), dice_of(seed)
     with tempfile.TemporaryDirectory() as room:
-        kill(prompt, room, dice, int(count))
+        kill(prompt, room, dice, count)
     end("the prompt, killed")
 
 
 if __name__ == "__main__":
-    main()
+    main(**given_by(__doc__, program=PROGRAM, count=Word(int, "how many kills"), seed=SEED))

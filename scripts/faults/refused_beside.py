@@ -1,12 +1,11 @@
-"""Refuses each allocation of a few lines of a script, and counts those after which the script goes on: the line is answered `refused 24 Memory`, and
+"""Refuses each growth of memory of a few lines of a script, and counts those after which the script goes on: the line is answered `refused 24 Memory`, and
 what follows as if it had not been sent. If memory runs out outside the store, the desk stays as it was. So there are more of them in a line that is
 taken, for which the event is copied before the first write, than in the same line sent again, which the rules refuse; and more in `standings`, which
-makes rows, than in `players`, which makes only a text. If a desk stopped when memory ran out outside the store, there would not be more.
+makes rows, than in `players`, which makes only a text. If a desk stopped because memory ran out outside the store, there would not be more.
 """
-import sys
-
 from scripts.clients.tally import check, end
 from scripts.faults.refused_memory import MEMORY, Script
+from scripts.words import LIBRARY, PROGRAM, given_by
 
 # as long as names may be
 NAMES = [it * 60 for it in (b"A", b"B", b"C", b"D", b"E")]
@@ -27,15 +26,20 @@ def check_more(what, more, less):
     check(f"{what}, more than {less}", more > less or more, True)
 
 
-script, told = Script(*sys.argv[1:], [it + b"\n" for it in LINES]), []
-for line in TAKEN:
-    at, name = LINES.index(line), line.split()[0].decode()
-    check(f"{name}, twice", (script.answers[at][:3], script.answers[at + 1][:8]), (b"ok ", b"refused "))
-    taken, refused = goes_on(script, at), goes_on(script, at + 1)
-    check_more(name, taken, refused)
-    told.append(f"{taken} of {name} and {refused} where it is refused")
-longer = {it: len(script.answers[LINES.index(it)]) > DOUBLED * heading for it, heading in HEADINGS.items()}
-check("which text doubles more often", longer, {b"players": True, b"standings": False})
-rows, text = goes_on(script, LINES.index(b"standings")), goes_on(script, LINES.index(b"players"))
-check_more("standings", rows, text)
-end(f"allocations after which a script goes on: {', '.join(told)}, {rows} of standings and {text} of players")
+def main(program, library):
+    script, told = Script(program, library, [it + b"\n" for it in LINES]), []
+    for line in TAKEN:
+        at, name = LINES.index(line), line.split()[0].decode()
+        check(f"{name}, twice", (script.answers[at][:3], script.answers[at + 1][:8]), (b"ok ", b"refused "))
+        taken, refused = goes_on(script, at), goes_on(script, at + 1)
+        check_more(name, taken, refused)
+        told.append(f"{taken} of {name} and {refused} where it is refused")
+    longer = {it: len(script.answers[LINES.index(it)]) > DOUBLED * heading for it, heading in HEADINGS.items()}
+    check("which text doubles more often", longer, {b"players": True, b"standings": False})
+    rows, text = goes_on(script, LINES.index(b"standings")), goes_on(script, LINES.index(b"players"))
+    check_more("standings", rows, text)
+    end(f"growths after which a script goes on: {', '.join(told)}, {rows} of standings and {text} of players")
+
+
+if __name__ == "__main__":
+    main(**given_by(__doc__, program=PROGRAM, library=LIBRARY))

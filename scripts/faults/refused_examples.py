@@ -21,6 +21,7 @@ from scripts.faults.refusing import no_cause_no_fault, refusing
 from scripts.models.plain_csv import imported, players_rows, results_rows, written
 from scripts.models.plain_event import Event
 from scripts.models.plain_http import served as served_plainly
+from scripts.words import LIBRARY, PROGRAM, Word, given_by
 
 NAME, ZERO = "Friday", "0" * 64
 FOUR = ["enrol\tAna", "enrol\tBo", "enrol\tCy", "enrol\tDi"]
@@ -234,4 +235,4 @@ def main(program, library, jobs):
 
 
 if __name__ == "__main__":
-    sys.exit(main(*sys.argv[1:3], int(sys.argv[3])))
+    sys.exit(main(**given_by(__doc__, program=PROGRAM, library=LIBRARY, jobs=Word(int, "how many at once"))))

@@ -1,7 +1,7 @@
 """Runs command lines over a file, and a migration of one of version 1, with one allocation refused, each in turn. The answer is as ever, or
 `refused 24 Memory` with status 4. The file then holds the event as it was, or as the command leaves it, and so where it was answered as ever. An import
 for which memory ran out has enrolled as many names as it says, or one more. What the file holds then the program shows, once nothing is refused, and
-behind that the file alone holds it, without its log.
+after that the file alone holds it, without its log.
 
 An opening by itself allocates some 4,300 times, so that of a command line's allocations each STRIDE-th is refused, and then each of the last 150.
 """
@@ -14,6 +14,7 @@ import tempfile
 from scripts.clients.event_files import copied, due, event_of_four, make_old, rows_alone, rows_of, rows_of_copy
 from scripts.faults.refusing import chosen_allocations, no_cause_no_fault, refusing
 from scripts.models.plain_log import without_salts
+from scripts.words import LIBRARY, PROGRAM, Word, given_by
 
 LAST = 150
 
@@ -149,4 +150,5 @@ def main(program, library, stride):
 
 
 if __name__ == "__main__":
-    sys.exit(main(*sys.argv[1:3], int(sys.argv[3])))
+    stride = Word(int, "of so many growths one is refused")
+    sys.exit(main(**given_by(__doc__, program=PROGRAM, library=LIBRARY, stride=stride)))

@@ -14,6 +14,7 @@ from scripts.clients.event_files import copied, event_of_four, make_four, rows_o
 from scripts.clients.serving import Serving, served
 from scripts.faults.refusing import chosen_allocations, no_cause_no_fault, refusing
 from scripts.models.plain_http import refusal, served as served_plainly
+from scripts.words import LIBRARY, PROGRAM, Word, given_by
 
 LAST = 60
 
@@ -92,4 +93,5 @@ def main(program, library, stride):
 
 
 if __name__ == "__main__":
-    sys.exit(main(*sys.argv[1:3], int(sys.argv[3])))
+    stride = Word(int, "of so many growths one is refused")
+    sys.exit(main(**given_by(__doc__, program=PROGRAM, library=LIBRARY, stride=stride)))

@@ -8,6 +8,7 @@ import subprocess
 import sys
 
 from scripts.faults.refusing import no_cause_no_fault, refusing
+from scripts.words import LIBRARY, PROGRAM, Word, given_by
 
 MEMORY = b"refused 24 Memory\n"
 NEEDS_REOPEN = b"refused 26 NeedsReopen\n"
@@ -73,4 +74,5 @@ def main(program, library, script, whole):
 
 
 if __name__ == "__main__":
-    main(*sys.argv[1:])
+    script, whole = Word(str, "the script"), Word(str, "what it is answered")
+    main(**given_by(__doc__, program=PROGRAM, library=LIBRARY, script=script, whole=whole))

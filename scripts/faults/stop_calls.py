@@ -6,7 +6,7 @@ fails has the command refused with 25.
 A migration finds an event in version 1, which SQL has made, closed or all in its log. The file then holds that in version 1 or in version 2, and a
 migration that is sent again is answered as ever, whichever it is.
 
-A command closes its file after the answer. Of a call there the answer knows nothing: it is whole if the program is stopped, and where the call fails
+A command closes its file after the answer. Of a call there the answer knows nothing: it is whole if the program is stopped, and if the call fails
 it is as ever, with its status. After the command that comes next, the file without its log holds the event.
 
 Each command line makes the same calls to open a file that is closed. In the gate each of them is meddled with in every fourth line.
@@ -36,6 +36,7 @@ from scripts.clients.program import Program
 from scripts.faults.stopping import STOPS, calls_of, meddling, ways
 from scripts.models.plain_event import Event
 from scripts.models.random_play import random_event, version_of
+from scripts.words import LIBRARY, PROGRAM, SEED, Word, given_by
 
 # the most players of a random event that is played to its champion
 MOST = 12
@@ -163,4 +164,6 @@ def main(program, library, count, seed):
     return 1 if calls.wrong else 0
 
 
-sys.exit(main(sys.argv[1], sys.argv[2], int(sys.argv[3]), int(sys.argv[4])))
+if __name__ == "__main__":
+    count = Word(int, "how many random events are played besides; with 0 each call that opens a file is tried in every fourth line")
+    sys.exit(main(**given_by(__doc__, program=PROGRAM, library=LIBRARY, count=count, seed=SEED)))

@@ -4,13 +4,13 @@ are no database without it, so that a program which took it away would be seen h
 """
 import os
 import shutil
-import sys
 import tempfile
 
 from scripts.clients.event_files import due
 from scripts.clients.program import Program
 from scripts.clients.tally import check, end
 from scripts.faults.stopping import calls_of, meddling
+from scripts.words import LIBRARY, PROGRAM, given_by
 
 # a header and a frame of the smallest page: a log that is shorter holds nothing
 LEAST_LOG = 32 + 24 + 512
@@ -56,4 +56,5 @@ def main(program, library):
     end("a database whose making failed")
 
 
-main(*sys.argv[1:])
+if __name__ == "__main__":
+    main(**given_by(__doc__, program=PROGRAM, library=LIBRARY))

@@ -11,6 +11,7 @@ import tempfile
 from scripts.clients.event_files import by_sqlite, copied, due, event_of_four, make_four, make_old
 from scripts.clients.program import Program
 from scripts.faults.stopping import STOPS, calls_of, meddling, ways
+from scripts.words import LIBRARY, PROGRAM, given_by
 
 INIT, PLAYERS, MIGRATE = ("init", "E", "3", "0"), ("players",), ("migrate",)
 STORE, NO_EVENT, EXISTS, DAMAGED = (due([f"refused {it}"]) for it in ("25 Store", "27 NoEvent", "28 EventExists", "29 Damaged"))
@@ -85,4 +86,5 @@ def main(program, library):
     return 1 if wrong else 0
 
 
-sys.exit(main(sys.argv[1], sys.argv[2]))
+if __name__ == "__main__":
+    sys.exit(main(**given_by(__doc__, program=PROGRAM, library=LIBRARY)))

@@ -1,6 +1,6 @@
 """Serves an event, and meddles with each call by which the program then changes a file: it stops the program there, or has this call fail once. The
-file holds every score that was acknowledged, and perhaps the one on its way. If a call has failed, the request is answered 503 with refusal
-25 and each later one 503 with refusal 26, or nobody is listened to. Behind `served` the file is closed, and then no answer changes.
+file holds every score that was acknowledged, and perhaps the one on its way. Where a call has failed, the request is answered 503 with refusal
+25 and each later one 503 with refusal 26, or nobody is listened to. After `served` the file is closed, and then no answer changes.
 
 It is ended between two requests too, at once and by Ctrl-C, and closes nothing then. The command that comes next does, so that the file without its
 log holds the event.
@@ -17,6 +17,7 @@ from scripts.clients.program import Program
 from scripts.clients.serving import Serving, hear_interrupts, served
 from scripts.faults.stopping import STOPS, calls_of, meddling, ways
 from scripts.models.plain_http import refusal, served as served_plainly
+from scripts.words import LIBRARY, PROGRAM, given_by
 
 POSTS = [b'POST /rounds/1/tables/%d HTTP/1.1\r\nContent-Length: 19\r\n\r\n{"a":2,"b":1,"d":0}' % it for it in (1, 2)]
 REQUESTS = [*POSTS, b"GET /rounds/1/tables/1 HTTP/1.1\r\n\r\n"]
@@ -109,4 +110,5 @@ def main(program, library):
     return 1 if wrong else 0
 
 
-sys.exit(main(sys.argv[1], sys.argv[2]))
+if __name__ == "__main__":
+    sys.exit(main(**given_by(__doc__, program=PROGRAM, library=LIBRARY)))

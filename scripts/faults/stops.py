@@ -1,5 +1,5 @@
 """Stops the program at random instants of random events over files, by SIGKILL, and looks at what the file then holds: the event before the
-command or after it, whole, and after it if the command was acknowledged. After the commands that come next the file alone holds it, without its
+command or after it, whole, and after it where the command was acknowledged. After the commands that come next the file alone holds it, without its
 log. Then the command is sent again, if it was not taken. Half of the events begin in version 1, in files made by SQL, and are migrated on the way.
 """
 import copy
@@ -13,6 +13,7 @@ import time
 from scripts.clients.event_files import due, has_begun_old, rows_alone, rows_left, rows_of, words_of
 from scripts.clients.program import Program
 from scripts.models.random_play import random_event, version_of
+from scripts.words import PROGRAM, SEED, Word, given_by
 
 
 class Stopped(Exception):
@@ -104,4 +105,5 @@ def main(program, count, seed):
     return 1 if stops.wrong else 0
 
 
-sys.exit(main(sys.argv[1], int(sys.argv[2]), int(sys.argv[3])))
+if __name__ == "__main__":
+    sys.exit(main(**given_by(__doc__, program=PROGRAM, count=Word(int, "how many stops are made"), seed=SEED)))

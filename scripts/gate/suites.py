@@ -85,7 +85,7 @@ PARTS = {
         "test_file_events.py",
         module("models.answers", "--check"),
     ),
-    "csv": ("test_csv.py", "test_random_lists.py", "test_completions.py"),
+    "csv": ("test_csv.py", "test_random_lists.py", "test_completions.py", "test_help.py"),
     "companions": (types_of_companions, tests_of_companions),
     "prompt": (
         "test_prompt.py",
