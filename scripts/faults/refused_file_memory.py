@@ -3,7 +3,7 @@
 for which memory ran out has enrolled as many names as it says, or one more. What the file holds then the program shows, once nothing is refused, and
 after that the file alone holds it, without its log.
 
-An opening by itself allocates some 4,300 times, so that of a command line's allocations each STRIDE-th is refused, and then each of the last 150.
+An opening by itself allocates thousands of times, so that of a command line's allocations each STRIDE-th is refused, and then each of the last 150.
 """
 import concurrent.futures
 import os
