@@ -33,7 +33,7 @@ def random_list(dice, most):
     text = io.StringIO(newline="")
     writer = csv.writer(text, quoting=dice.choice((csv.QUOTE_MINIMAL, csv.QUOTE_ALL)), lineterminator=dice.choice(("\n", "\r\n")))
     writer.writerows(rows)
-    return (b"\xef\xbb\xbf" if dice.random() < 0.3 else b"") + text.getvalue().encode()
+    return b"\xef\xbb\xbf" * dice.choice((0, 0, 0, 1, 2)) + text.getvalue().encode()
 
 
 def damaged(dice, data):

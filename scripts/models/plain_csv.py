@@ -16,9 +16,11 @@ class Fault(Exception):
 
 
 def records(data):
-    """The records of a text, as lists of bytes. One byte order mark is taken off, and an empty line is no record."""
-    text = (data[3:] if data.startswith(b"\xef\xbb\xbf") else data).decode("latin-1")
-    return [[it.encode("latin-1") for it in row] for row in csv.reader(io.StringIO(text, newline="")) if row]
+    """The records of a text, as lists of bytes. Up to two byte order marks are taken off, and an empty line is no record."""
+    for _ in range(2):
+        data = data[3:] if data.startswith(b"\xef\xbb\xbf") else data
+    rows = csv.reader(io.StringIO(data.decode("latin-1"), newline=""))
+    return [[it.encode("latin-1") for it in row] for row in rows if row]
 
 
 def number(data):

@@ -19,9 +19,10 @@ use Rattle.er_desk.specs.{Asking.{Asks, GoesOnFrom, NextSessions}}
 use Rattle.er_desk.specs.{History.new_point, Opening.NoneAwaitsIn}
 use Rattle.er_event.specs.{Sound.{IsSetUp}, Version.{IsVersion}}
 use Rattle.er_cli.specs.Clients.{Got}
-use Rattle.er_cli.specs.{Files.{MakesEvent, WorksOn}, Left.{IsClearedOf, ListsByNumber, PutsAway, WasOpenedClean}, Next.{GoesTo, RecoversSession}}
+use Rattle.er_cli.specs.{Files.{MakesEvent, WorksOn}, Next.{GoesTo, RecoversSession}}
+use Rattle.er_cli.specs.Remains.{IsClearedOf, ListsByNumber, PutsAway, WasOpenedClean}
 use Rattle.er_cli.specs.World.{World}
-use Rattle.er_cli.specs.declared.left.{Left.Left, Left.TheVariants.Nothing}
+use Rattle.er_cli.specs.declared.remains.{Remains.Remains, Remains.TheVariants.Nothing}
 use Rattle.er_cli.proofs.Leaving.{put_such, put_clean, was_put, cleared_such, cleared_clean, cleared_unopened, cleared_sound, put_sound}
 use Rattle.er_cli.proofs.Leaving.{BeginsIn, left_by}
 use Rattle.std.proofs.Math.Logic.{∥∥₁_elim}
@@ -288,7 +289,7 @@ module _ (new : Point) (first : Placed) (ends : List Ended) (begins : IsBeginnin
               (subst (λ (p : Placed). IsStoredEnd (placed_at p.point version) session trees) again.found ended),
         )
 
-    pub goes_to : (what : Left D d) → PutsAway last what → GoesTo d (In first.version) new ends session what
+    pub goes_to : (what : Remains D d) → PutsAway last what → GoesTo d (In first.version) new ends session what
     goes_to what put = record {
       put_away = was_put (state over_files last) what put.closes;
       leaves = left_by (In first.version) new ends session begins what (put_sound (state over_files last) what put.closes)
@@ -309,7 +310,7 @@ first_placed new old is = ap placed_of is
 pub made_begins : NextSessions → {D : Type 0} (d : disk.Ghosts D) (image : Image) (name : List ℕ) (rounds cut : ℕ)
     (desk : Desk (FileStore D d) over_files)
     → IsSetUp name rounds cut → HasMade image name rounds cut desk → Asks over_files desk no_session desk
-    → (what : Left D d) → PutsAway desk what → NoneAwaitsIn image
+    → (what : Remains D d) → PutsAway desk what → NoneAwaitsIn image
     → GoesTo d (λ version. version ≡ 2) (new_point name rounds cut) [] no_session what
 made_begins law d image name rounds cut desk set_up made asks what put awaits =
     let new = new_point name rounds cut in
@@ -347,7 +348,7 @@ work_clean g old (Migration told) new it = it.does.clean
 
 -- what a line that opens an event goes on with
 abbrev pub GoesOn : {D : Type 0} (d : disk.Ghosts D) → World → Image → Point → List Ended
-    → Placed → Left D d → Printed → Task → Type 0
+    → Placed → Remains D d → Printed → Task → Type 0
 GoesOn d world image new ends first what p task =
     TellsAndLeaves (λ (work : Work). AnswersTask (WasOpenedClean what) first task work p)
     (λ (work : Work). GoesOnBy d image new ends first work what)
@@ -359,7 +360,7 @@ module _ (law : NextSessions) (image : Image) (new : Point) (first : Placed) (en
   from : GoesOnFrom new first.point ends
   from = law new first.point ends was.begins was.history
 
-  module _ {D : Type 0} (d : disk.Ghosts D) (what : Left D d) where
+  module _ {D : Type 0} (d : disk.Ghosts D) (what : Remains D d) where
     answers_question : (desk last : Desk (FileStore D d) over_files) (question : Question) (told : Told)
         → IsFound d image first desk → (HasCleanDisk (state over_files last) → HasCleanDisk (state over_files desk))
         → IsFalse (desk_state desk).needs_reopen
@@ -450,7 +451,7 @@ module _ (law : NextSessions) (image : Image) (new : Point) (first : Placed) (en
           } in
           inr (record { done = why; told = tells; file = stays })
 
-module _ {D : Type 0} (d : disk.Ghosts D) (world : World) (file : List ℕ) (what : Left D d) (p : Printed) where
+module _ {D : Type 0} (d : disk.Ghosts D) (world : World) (file : List ℕ) (what : Remains D d) (p : Printed) where
   -- the file is not there
   pub absent_goes_on : (why : Refusal) → ((why ≡ NoEvent) × (world.is_there file ≢ Some true)) ⊎ IsFault why → what ≡ Nothing
       → Tells (Refused why) p → (task : Task) → GoesOnAction d world file (Open task) what p
@@ -463,7 +464,7 @@ module _ {D : Type 0} (d : disk.Ghosts D) (world : World) (file : List ℕ) (wha
     told = tells;
     file = record {
       refused = λ opened. (Memory, refl, inr (inr (inl refl)));
-      leaves = subst (λ (left : Left D d). RecoversSession d (Stays first.version) new ends no_session left) (sym none) tt;
+      leaves = subst (λ (left : Remains D d). RecoversSession d (Stays first.version) new ends no_session left) (sym none) tt;
     };
   }
   unread_goes_on none tells (Open task) = absent_goes_on Memory (inr (inl refl)) none tells task
@@ -483,7 +484,7 @@ module _ {D : Type 0} (d : disk.Ghosts D) (world : World) (file : List ℕ) (wha
         record { refused = λ opened. (why, is, inr none.cause); leaves = none.stays new ends first was }
     no_other name rounds cut told (inr (inr (unlawful, is, nothing))) = record {
       refused = λ opened. (BadSetup, is, inl refl);
-      leaves = subst (λ (left : Left D d). RecoversSession d (Stays first.version) new ends no_session left) (sym nothing) tt;
+      leaves = subst (λ (left : Remains D d). RecoversSession d (Stays first.version) new ends no_session left) (sym nothing) tt;
     }
 
   pub init_goes_on : (got : Option (List Got)) (name : List ℕ) (rounds cut : ℕ) → EndsLine d world got file what p (Init name rounds cut)

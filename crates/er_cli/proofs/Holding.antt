@@ -22,10 +22,10 @@ use Rattle.er_desk.specs.{declared.desk.Desk.Desk, Desk.{Point, Placed, DeskStat
 use Rattle.er_desk.specs.{Run.{Session, no_session}, History.Ended, Opening.HoldsStill}
 use Rattle.er_desk.specs.{Headline.{IsBeginning, RecoversHistory, and_then}, Asking.{Asks, NextSessions, GoesOnFrom, SessionsJoin}}
 use Rattle.er_answers.specs.declared.question.{Question.Question, Told.Told}
-use Rattle.er_cli.specs.declared.left.{Left.Left}
+use Rattle.er_cli.specs.declared.remains.{Remains.Remains}
 use Rattle.er_cli.specs.Next.{RecoversIn}
 use Rattle.sqlite_wal.specs.{Files.outcomes, Reads.AreClean}
-use Rattle.er_cli.specs.{Left.{HoldSuch, IfUnopened}, Next.WasOpened}
+use Rattle.er_cli.specs.{Remains.{HoldSuch, IfUnopened}, Next.WasOpened}
 use Rattle.er_cli.specs.Sessions.{AnswersAll, AreCut, AsksMigration, AsksOver, HoldsNext, HoldsThen, IfCleanFiles}
 use Rattle.er_cli.specs.Sessions.{RecoversAfterSession, IsClosedOrKept, LeadToVersion, MayMoveFor, SparesFiles, VersionAfter}
 use Rattle.er_cli.proofs.Leaving.{BeginsIn, put_such, put_clean, put_sound, put_opened, was_put, left_by}
@@ -57,7 +57,7 @@ module _ {D : Type 0} {d : disk.Ghosts D} where
             ) in it);
       }
 
-  pub same_left_over : (conn other : Held (FileStore D d)) (now : Result (Files D) (Left D d)) → conn ≡ other
+  pub same_left_over : (conn other : Held (FileStore D d)) (now : Result (Files D) (Remains D d)) → conn ≡ other
       → IsClosedOrKept (file_state conn) now → IsClosedOrKept (file_state other) now
   same_left_over conn other now is over = subst (λ (h : Held (FileStore D d)). IsClosedOrKept (file_state h) now) is over
 
@@ -72,23 +72,23 @@ module _ {D : Type 0} {d : disk.Ghosts D} where
             let found : (db : Trees) × s.may_leave db × HoldsDatabase image db = (it.db, it.is, holds) in found);
       }
 
-  over_clean : (Is : Type 0) (s : State) (now : Result (Files D) (Left D d)) → IsClosedOrKept s now → (HasCleanDisk s → Is)
+  over_clean : (Is : Type 0) (s : State) (now : Result (Files D) (Remains D d)) → IsClosedOrKept s now → (HasCleanDisk s → Is)
       → IfCleanFiles Is now
   over_clean Is s (Ok files) over is = λ clean. is (over clean).was_clean
   over_clean Is s (Err what) over is = put_clean Is s what over is
 
-  over_opened : (files : Files D) (why : Refusal) (s : State) (now : Result (Files D) (Left D d)) → IsClosedOrKept s now
+  over_opened : (files : Files D) (why : Refusal) (s : State) (now : Result (Files D) (Remains D d)) → IsClosedOrKept s now
       → MatchResult now (λ _. Unit {0}) (IfUnopened (SparesFiles files) why)
   over_opened files why s (Ok left) over = tt
   over_opened files why s (Err what) over = put_opened (SparesFiles files) why s what over
 
-  over_put : (s : State) (now : Result (Files D) (Left D d)) → IsClosedOrKept s now
+  over_put : (s : State) (now : Result (Files D) (Remains D d)) → IsClosedOrKept s now
       → MatchResult now (λ _. Unit {0}) (λ what. WasOpened what)
   over_put s (Ok left) over = tt
   over_put s (Err what) over = was_put s what over
 
   over_next : (In : ℕ → Type 0) (new : Point) (ends : List Ended) (session : Session) → IsBeginning new → (s : State)
-      (now : Result (Files D) (Left D d)) → IsClosedOrKept s now → AfterCrash s (BeginsIn In new ends session)
+      (now : Result (Files D) (Remains D d)) → IsClosedOrKept s now → AfterCrash s (BeginsIn In new ends session)
       → RecoversAfterSession d In new ends
       session now
   over_next In new ends session begins s (Ok files) over leaves = λ clean image may.
@@ -105,7 +105,8 @@ module _ {D : Type 0} {d : disk.Ghosts D} where
 
 -- a disk that is clean after a session was clean before
 pub ran_clean : {D : Type 0} (d : disk.Ghosts D) (join : SessionsJoin) (desk : Desk (FileStore D d) over_files) (questions : List Question)
-    (answers : Result (Vec Told Global) Refusal) (now : Result (Files D) (Left D d)) → AsksOver desk questions answers now → {Is : Type 0}
+    (answers : Result (Vec Told Global) Refusal) (now : Result (Files D) (Remains D d)) → AsksOver desk questions answers now
+    → {Is : Type 0}
     → (HasCleanDisk (state over_files desk) → Is) → IfCleanFiles Is now
 ran_clean d join desk questions (Ok them) now it {Is} is = over_clean Is (state over_files it.last) now it.let_go
     (λ clean. is ((all_over join over_files it.last it.rests questions them.items desk it.asked).1.went.clean clean))
@@ -154,7 +155,7 @@ module _ {D : Type 0} (d : disk.Ghosts D) (law : NextSessions) (files : Files D)
         it.0.now_is ∙ was ∙ sym it.0.committed_is,
       )
 
-  pub refused_holds : (questions : List Question) (back : Held (FileStore D d)) (why : Refusal) (now : Result (Files D) (Left D d))
+  pub refused_holds : (questions : List Question) (back : Held (FileStore D d)) (why : Refusal) (now : Result (Files D) (Remains D d))
       → IsClosedOrKept (file_state back) now
       → AfterCrash (file_state back) (BeginsIn (Stays first.version) new ends no_session)
       → (HasCleanDisk (file_state back) → IsFault why)
@@ -169,7 +170,7 @@ module _ {D : Type 0} (d : disk.Ghosts D) (law : NextSessions) (files : Files D)
   pub ran_holds : SessionsJoin → (desk : Desk (FileStore D d) over_files) → IsFalse (desk_state desk).needs_reopen
       → IsFound d (image_of d files) first desk
       → (questions : List Question) → MayMoveFor (image_of d files) first questions
-      → (answers : Result (Vec Told Global) Refusal) (now : Result (Files D) (Left D d)) → AsksOver desk questions answers now
+      → (answers : Result (Vec Told Global) Refusal) (now : Result (Files D) (Remains D d)) → AsksOver desk questions answers now
       → HoldsNext d new ends first files questions answers now
   ran_holds join desk runs found questions move (Ok them) now it =
       let over = all_over join over_files it.last it.rests questions them.items desk it.asked in
@@ -237,7 +238,7 @@ module _ (new : Point) (P Q : List Ended → Placed → Image → Type 0) (quest
   ))
 
 module _ {D : Type 0} (d : disk.Ghosts D) (new : Point) (questions : Vec Question Global) (answers : Result (Vec Told Global) Refusal)
-    (files : Files D) (left : Result (Files D) (Left D d)) (last now : Files D) (is : left ≡ Ok last)
+    (files : Files D) (left : Result (Files D) (Remains D d)) (last now : Files D) (is : left ≡ Ok last)
     (clean : AreClean d now.log now.db) (last_clean : AreClean d last.log last.db)
     (may_leave : outcomes d last.log last.db (image_of d now))
     (holds : (first : Placed) (ends : List Ended) → RecoversHistory (image_of d files) new ends first

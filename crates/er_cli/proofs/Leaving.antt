@@ -17,9 +17,9 @@ use Rattle.er_desk.specs.{Run.Session, History.Ended, Headline.{IsBeginning, Nex
 use Rattle.er_desk.specs.declared.opening.OpenFault.{OpenFault}
 use Rattle.er_desk.specs.declared.opening.OpenFault.TheVariants as fault
 use Rattle.er_desk.specs.Opening.{NamesFirstFault, NamesFirstFaultIn, OnRefused, OnUnopened, SparesAt, WhereUnopened, why_of}
-use Rattle.er_cli.specs.declared.left.Left.{Left}
-use Rattle.er_cli.specs.declared.left.Left.TheVariants as left
-use Rattle.er_cli.specs.Left.{HoldSuch, IfUnopened, IsClearedOf, ClosesFile, KeepsAll, RecoversSuch, WasOpenedClean}
+use Rattle.er_cli.specs.declared.remains.Remains.{Remains}
+use Rattle.er_cli.specs.declared.remains.Remains.TheVariants as left
+use Rattle.er_cli.specs.Remains.{HoldSuch, IfUnopened, IsClearedOf, RemainsOf, KeepsAll, RecoversSuch, WasOpenedClean}
 use Rattle.er_cli.specs.Files.{IsNotOpened}
 use Rattle.er_cli.specs.Next.{FindsNext, RecoversSession, RecoversIn, WasOpened}
 use Rattle.er_cli.proofs.Outcomes.{left_again}
@@ -73,19 +73,19 @@ module _ {D : Type 0} {d : disk.Ghosts D} where
   }
 
   -- a store that was not closed leaves databases
-  abbrev pub IsSoundLeft : Left D d → Type 0
+  abbrev pub IsSoundLeft : Remains D d → Type 0
   IsSoundLeft left.Nothing = Unit {0}
   IsSoundLeft (left.Closed files) = Unit {0}
   IsSoundLeft (left.Unclosed store) = IsClean (view store) → AreDatabases (recovers store)
   IsSoundLeft (left.Unopened rest) = Unit {0}
 
-  pub same_put_away : (conn other : Held (FileStore D d)) (what : Left D d) → conn ≡ other → ClosesFile (file_state conn) what
-      → ClosesFile (file_state other) what
-  same_put_away conn other what is put = subst (λ (h : Held (FileStore D d)). ClosesFile (file_state h) what) is put
+  pub same_put_away : (conn other : Held (FileStore D d)) (what : Remains D d) → conn ≡ other → RemainsOf (file_state conn) what
+      → RemainsOf (file_state other) what
+  same_put_away conn other what is put = subst (λ (h : Held (FileStore D d)). RemainsOf (file_state h) what) is put
 
   -- ---- what is left
 
-  pub put_such : (Such : Trees → Type 0) (s : State) (what : Left D d) → ClosesFile s what → AfterCrash s Such → RecoversSuch Such what
+  pub put_such : (Such : Trees → Type 0) (s : State) (what : Remains D d) → RemainsOf s what → AfterCrash s Such → RecoversSuch Such what
   put_such Such s left.Nothing none leaves = absurd none
   put_such Such s (left.Closed files) closed leaves = λ clean.
       let (was_clean, it) = closed clean in
@@ -93,20 +93,20 @@ module _ {D : Type 0} {d : disk.Ghosts D} where
   put_such Such s (left.Unclosed store) keeps leaves = λ clean trees may. leaves (keeps.was_clean clean) trees (keeps.as_before trees may)
   put_such Such s (left.Unopened rest) none leaves = absurd none
 
-  pub put_clean : (Is : Type 0) (s : State) (what : Left D d) → ClosesFile s what → (HasCleanDisk s → Is)
+  pub put_clean : (Is : Type 0) (s : State) (what : Remains D d) → RemainsOf s what → (HasCleanDisk s → Is)
       → WasOpenedClean what → Is
   put_clean Is s left.Nothing none is = absurd none
   put_clean Is s (left.Closed files) closed is = λ clean. is (closed clean).0
   put_clean Is s (left.Unclosed store) keeps is = λ clean. is (keeps.was_clean clean)
   put_clean Is s (left.Unopened rest) none is = absurd none
 
-  pub was_put : (s : State) (what : Left D d) → ClosesFile s what → WasOpened what
+  pub was_put : (s : State) (what : Remains D d) → RemainsOf s what → WasOpened what
   was_put s left.Nothing none = absurd none
   was_put s (left.Closed files) closed = tt
   was_put s (left.Unclosed store) keeps = tt
   was_put s (left.Unopened rest) none = absurd none
 
-  pub put_opened : (Spares : Error → Option (Leftover D d) → Type 0) (why : Refusal) (s : State) (what : Left D d) → ClosesFile s what
+  pub put_opened : (Spares : Error → Option (Leftover D d) → Type 0) (why : Refusal) (s : State) (what : Remains D d) → RemainsOf s what
       → IfUnopened Spares why what
   put_opened Spares why s left.Nothing none = absurd none
   put_opened image why s (left.Closed files) closed = tt
@@ -115,31 +115,31 @@ module _ {D : Type 0} {d : disk.Ghosts D} where
 
   -- ---- of an opening that was refused
 
-  pub cleared_such : (Such : Trees → Type 0) (why : OpenFault D d) (what : Left D d) → IsClearedOf why what
+  pub cleared_such : (Such : Trees → Type 0) (why : OpenFault D d) (what : Remains D d) → IsClearedOf why what
       → OnRefused why (λ conn. AfterCrash (file_state conn) Such) → RecoversSuch Such what
   cleared_such Such (fault.Unopened error None) what is leaves = subst (RecoversSuch Such) (sym is) tt
   cleared_such Such (fault.Unopened error (Some rest)) what is leaves = subst (RecoversSuch Such) (sym is) tt
   cleared_such Such (fault.Refused conn refusal) what put leaves = put_such Such (file_state conn) what put leaves
 
-  pub cleared_clean : (Is : Type 0) (why : OpenFault D d) (what : Left D d) → IsClearedOf why what
+  pub cleared_clean : (Is : Type 0) (why : OpenFault D d) (what : Remains D d) → IsClearedOf why what
       → OnRefused why (λ conn. HasCleanDisk (file_state conn) → Is) → WasOpenedClean what → Is
   cleared_clean Is (fault.Unopened error None) what is leaves = λ clean. absurd (subst WasOpenedClean is clean)
   cleared_clean Is (fault.Unopened error (Some rest)) what is leaves = λ clean. absurd (subst WasOpenedClean is clean)
   cleared_clean Is (fault.Refused conn refusal) what put leaves = put_clean Is (file_state conn) what put leaves
 
   -- a store that was not closed leaves databases
-  pub put_sound : (s : State) (what : Left D d) → ClosesFile s what → IsSoundLeft what
+  pub put_sound : (s : State) (what : Remains D d) → RemainsOf s what → IsSoundLeft what
   put_sound s left.Nothing none = absurd none
   put_sound s (left.Closed files) closed = tt
   put_sound s (left.Unclosed store) keeps = keeps.sound
   put_sound s (left.Unopened rest) none = absurd none
 
-  pub cleared_sound : (why : OpenFault D d) (what : Left D d) → IsClearedOf why what → IsSoundLeft what
+  pub cleared_sound : (why : OpenFault D d) (what : Remains D d) → IsClearedOf why what → IsSoundLeft what
   cleared_sound (fault.Unopened error None) what is = subst IsSoundLeft (sym is) tt
   cleared_sound (fault.Unopened error (Some rest)) what is = subst IsSoundLeft (sym is) tt
   cleared_sound (fault.Refused conn refusal) what put = put_sound (file_state conn) what put
 
-  pub cleared_unopened : (image : Image) (why : OpenFault D d) (said : Refusal) (what : Left D d)
+  pub cleared_unopened : (image : Image) (why : OpenFault D d) (said : Refusal) (what : Remains D d)
       → said ≡ why_of why → IsClearedOf why what → WhereUnopened why (IsFault (why_of why)) → OnUnopened why (SparesAt image)
       → IfUnopened (SparesAt image) said what
   cleared_unopened image (fault.Unopened error None) said what so is failed spared =
@@ -155,7 +155,7 @@ module _ {D : Type 0} {d : disk.Ghosts D} where
   named image (fault.Refused conn refusal) said so first = λ clean.
       let it = first clean in (it.0, it.1, it.2, subst (NamesFirstFault it.0) (sym so) it.3)
 
-  pub not_opened : (image : Image) (why : OpenFault D d) (said : Refusal) (what : Left D d)
+  pub not_opened : (image : Image) (why : OpenFault D d) (said : Refusal) (what : Remains D d)
       → said ≡ why_of why → IsClearedOf why what → (why_of why ≡ NoEvent) ⊎ IsLoadFault (why_of why)
       → WhereUnopened why (IsFault (why_of why))
       → OnRefused why (λ conn. HasCleanDisk (file_state conn) → NamesFirstFaultIn image (file_state conn) (why_of why))
@@ -171,7 +171,7 @@ module _ {D : Type 0} {d : disk.Ghosts D} where
   -- ---- the next command line
 
   module _ (In : ℕ → Type 0) (new : Point) (ends : List Ended) (session : Session) (begins : IsBeginning new) where
-    pub left_by : (what : Left D d) → IsSoundLeft what → RecoversSuch (BeginsIn In new ends session) what
+    pub left_by : (what : Remains D d) → IsSoundLeft what → RecoversSuch (BeginsIn In new ends session) what
         → RecoversSession d In new ends session
         what
     left_by left.Nothing sound it = tt

@@ -19,8 +19,8 @@ use Rattle.er_store.specs.{Fault.IsFault, Beside.IsStoredBeside, Representing.{E
 use Rattle.er_desk.specs.declared.opening.{OpenFault.OpenFault, OpenFault.TheVariants.Unopened as NotOpened}
 use Rattle.er_desk.specs.declared.opening.OpenFault.TheVariants.{Refused as OpenedInVain}
 use Rattle.er_desk.specs.{Desk.{Point, Placed, IsStoredAt}, Opening.{HasAnEvent, NoneAwaitsIn, RecoversBeside, OnRefused, OnUnopened, SparesAt, WhereUnopened, why_of}}
-use Rattle.er_cli.specs.declared.left.{Left.Left, Left.TheVariants.Nothing, NoDesk.NoDesk}
-use Rattle.er_cli.specs.{Left.{IsClearedOf, RecoversSuch}, Files.{HasMadeNone, MakesEvent}}
+use Rattle.er_cli.specs.declared.remains.{Remains.Remains, Remains.TheVariants.Nothing, OpenError.OpenError}
+use Rattle.er_cli.specs.{Remains.{IsClearedOf, RecoversSuch}, Files.{HasMadeNone, MakesEvent}}
 use Rattle.er_cli.proofs.Leaving.{BeginsIn, cleared_such, cleared_clean, cleared_sound, cleared_unopened, left_by}
 use Rattle.er_cli.proofs.GoingOn.{ends_nowhere}
 use Rattle.er_cli.specs.{inside.Making.InitReplies, Setup.is_setup}
@@ -34,36 +34,36 @@ no_setup name rounds cut is it =
     true≢false (sym (all_of _ _ _ _ it.name (le-leb 1 rounds it.rounds.0) (le-leb rounds MAX_ROUNDS it.rounds.1) it.cut) ∙ is)
 
 module _ {D : Type 0} (g : disk.Ghosts D) (image : Image) (name : List ℕ) (rounds cut : ℕ) where
-  abbrev Made : Result (Desk (FileStore D g) over_files) (NoDesk D g) → Type 0
+  abbrev Made : Result (Desk (FileStore D g) over_files) (OpenError D g) → Type 0
   Made made = MatchResult made (HasMade image name rounds cut)
       (λ it. HasMadeNone image (new_point name rounds cut) it.why it.left)
 
   -- an event that was made was set up lawfully
-  pub made_so : (made : Result (Desk (FileStore D g) over_files) (NoDesk D g)) (desk : Desk (FileStore D g) over_files) → made ≡ Ok desk
+  pub made_so : (made : Result (Desk (FileStore D g) over_files) (OpenError D g)) (desk : Desk (FileStore D g) over_files) → made ≡ Ok desk
       → InitReplies g image name rounds cut made → IsSetUp name rounds cut × HasMade image name rounds cut desk
   made_so made desk is (inl it) = (it.0, subst Made is it.1)
   made_so made desk is (inr it) = absurd (true≢false (ap is_ok (sym is ∙ it.1)))
 
-  same_none : (it other : NoDesk D g) → ◌≡◌ {A = Result (Desk (FileStore D g) over_files) (NoDesk D g)} (Err it) (Err other)
+  same_none : (it other : OpenError D g) → ◌≡◌ {A = Result (Desk (FileStore D g) over_files) (OpenError D g)} (Err it) (Err other)
       → it ≡ other
   same_none it other same = cc
 
   -- and why one was not
-  pub makes_none : (made : Result (Desk (FileStore D g) over_files) (NoDesk D g)) (it : NoDesk D g) → made ≡ Err it
+  pub makes_none : (made : Result (Desk (FileStore D g) over_files) (OpenError D g)) (it : OpenError D g) → made ≡ Err it
       → InitReplies g image name rounds cut made → MakesEvent g image name rounds cut (Refused it.why) it.left
   makes_none made it is (inl held) = inr (inl (held.0, (it.why, refl, subst Made is held.1)))
   makes_none made it is (inr held) =
       let same = same_none it (record { why = BadSetup; left = Nothing }) (sym is ∙ held.1) in
-      inr (inr (held.0, ap (λ (n : NoDesk D g). Refused n.why) same, ap (λ (n : NoDesk D g). n.left) same))
+      inr (inr (held.0, ap (λ (n : OpenError D g). Refused n.why) same, ap (λ (n : OpenError D g). n.left) same))
 
 -- why no event was made, and what is left then
 module _ {D : Type 0} {g : disk.Ghosts D} where
   -- what the file held, or that with the event's tables beside it
-  abbrev LeavesBeside : Point → Trees → Left D g → Type 0
+  abbrev LeavesBeside : Point → Trees → Remains D g → Type 0
   LeavesBeside new db what = (old : Database) × (old.trees ≡ db) × IsDatabase old
       × RecoversSuch (Either (λ trees. trees ≡ db) (IsStoredBeside 2 new.event old)) what
 
-  beside : (new : Point) (db : Trees) (fault : OpenFault D g) (what : Left D g) → IsClearedOf fault what
+  beside : (new : Point) (db : Trees) (fault : OpenFault D g) (what : Remains D g) → IsClearedOf fault what
       → OnRefused fault (λ conn. HasCleanDisk (file_state conn) → RecoversBeside new db (file_state conn))
       → OnRefused fault (λ conn. HasCleanDisk (file_state conn) → LeavesBeside new db what)
   beside new db (NotOpened error rest) what is over = tt
@@ -76,10 +76,10 @@ module _ {D : Type 0} {g : disk.Ghosts D} where
       )
 
   -- what is left where something called `event` can be read
-  abbrev LeavesJust : Image → Left D g → Type 0
+  abbrev LeavesJust : Image → Remains D g → Type 0
   LeavesJust image what = (db : Database) × HasAnEvent image db × RecoversSuch (λ trees. trees ≡ db.trees) what
 
-  just : (image : Image) (fault : OpenFault D g) (what : Left D g) → IsClearedOf fault what
+  just : (image : Image) (fault : OpenFault D g) (what : Remains D g) → IsClearedOf fault what
       → OnRefused fault (λ conn. HasCleanDisk (file_state conn)
       → (db : Database) × HasAnEvent image db × AfterCrash (file_state conn) (λ trees. trees ≡ db.trees))
       → OnRefused fault (λ conn. HasCleanDisk (file_state conn) → LeavesJust image what)
@@ -102,7 +102,7 @@ module _ {D : Type 0} {g : disk.Ghosts D} where
 
   pub not_made : NextSessions → (image : Image) (new : Point) (fault : OpenFault D g)
       (why : Refusal)
-      (what : Left D g) → why ≡ why_of fault → IsClearedOf fault what → (why_of fault ≡ EventExists) ⊎ IsFault (why_of fault)
+      (what : Remains D g) → why ≡ why_of fault → IsClearedOf fault what → (why_of fault ≡ EventExists) ⊎ IsFault (why_of fault)
       → WhereUnopened fault (IsFault (why_of fault))
       → (why_of fault ≡ EventExists → OnRefused fault (λ conn. HasCleanDisk (file_state conn)
       → (db : Database) × HasAnEvent image db × AfterCrash (file_state conn) (λ trees. trees ≡ db.trees)))

@@ -10,7 +10,7 @@ use Rattle.er_event.specs.{declared.refusals.Refusal.Refusal, declared.refusals.
 use Rattle.er_event.specs.{declared.refusals.Refusal.TheVariants.{BadName, NameTaken, PlayersFull}, Event.EventValue}
 use Rattle.er_event.specs.Change.{has_name, with_player, new_player}
 use Rattle.er_event.specs.{declared.players.TheConstants.MAX_PLAYERS, Name.is_lawful_name}
-use Rattle.er_rules.specs.{Commands.{first_refusal, is_enrolling, is_swiss}, Step.{Makes, Refuses, Steps, checks}, Fold.Folds}
+use Rattle.er_rules.specs.{Commands.{first_refusal, is_enrolling, is_swiss}, Step.{StepsBy, Steps, checks}, Fold.Folds}
 use Rattle.er_rules.specs.Retry.{NamesStay}
 use Rattle.er_desk.specs.{Desk.{Point, DeskState, Outcome, point_of}, Reply.{Reply, IsDue}, Run.{Runs, Session, MayEnd, EndsWithDoubt}}
 use Rattle.er_desk.specs.Run.{acknowledged_commands, last_tried, tried_or, session_of}
@@ -31,7 +31,7 @@ taken_is e next name steps = by_check (first_refusal (checks e (Enrol name))) re
     no_refusal why is = cc
 
     by_check : (o : Option Refusal) → first_refusal (checks e (Enrol name)) ≡ o
-        → MatchOption o (Makes e (Enrol name) (Ok next)) (Refuses (Ok next))
+        → StepsBy o e (Enrol name) (Ok next)
         → (first_refusal (checks e (Enrol name)) ≡ None) × (next ≡ with_player e name)
     by_check None is made = (is, same next (with_player e name) made)
     by_check (Some why) is refused = absurd (no_refusal why refused)
@@ -47,7 +47,7 @@ refused_is e name why steps = by_check (first_refusal (checks e (Enrol name))) r
     same w is = cc
 
     by_check : (o : Option Refusal) → first_refusal (checks e (Enrol name)) ≡ o
-        → MatchOption o (Makes e (Enrol name) (Err why)) (Refuses (Err why)) → first_refusal (checks e (Enrol name)) ≡ Some why
+        → StepsBy o e (Enrol name) (Err why) → first_refusal (checks e (Enrol name)) ≡ Some why
     by_check None is made = absurd (none_taken made)
     by_check (Some w) is refused = is ∙ same w refused
 

@@ -25,21 +25,21 @@ use Rattle.er_desk.specs.Run.{no_session}
 use Rattle.er_answers.specs.Answers.{MovesFile}
 use Rattle.er_answers.specs.declared.question.Told.{Told}
 use Rattle.er_answers.specs.declared.question.Told.TheVariants.{Accepted, Refused}
-use Rattle.er_cli.specs.Left.{IfUnopened, PutsAway, RecoversSuch, WasOpenedClean}
+use Rattle.er_cli.specs.Remains.{IfUnopened, PutsAway, RecoversSuch, WasOpenedClean}
 use Rattle.er_cli.specs.Next.{GoesTo, RecoversSession}
 use Rattle.er_cli.specs.Tasks.{Work}
 use Rattle.er_cli.specs.Tasks.Work.{Commands, Migration}
-use Rattle.er_cli.specs.declared.left.Left.{Left}
-use Rattle.er_cli.specs.declared.left.Left.TheVariants.{Nothing}
+use Rattle.er_cli.specs.declared.remains.Remains.{Remains}
+use Rattle.er_cli.specs.declared.remains.Remains.TheVariants.{Nothing}
 
 -- No file is given back. It is refused that there is no event, which comes only if it isn't known that the file is there, or for memory or
 -- by the device.
-abbrev pub IsNotThere : {D : Type 0} {g : disk.Ghosts D} → (is_there : Option Bool) → Refusal → Left D g → Type 0
+abbrev pub IsNotThere : {D : Type 0} {g : disk.Ghosts D} → (is_there : Option Bool) → Refusal → Remains D g → Type 0
 IsNotThere is_there why what = (what ≡ Nothing) × (((why ≡ NoEvent) × (is_there ≢ Some true)) ⊎ IsFault why)
 
 -- The event was not opened. Of a file that was opened, on a clean disk, no event and a damaged table are the first fault of what it held,
 -- and what is left holds just that, after a crash too. Of files that were not opened, what the storage crate says of them.
-pub record IsNotOpened {D : Type 0} {g : disk.Ghosts D} (image : Image) (why : Refusal) (what : Left D g) : Type 0 where
+pub record IsNotOpened {D : Type 0} {g : disk.Ghosts D} (image : Image) (why : Refusal) (what : Remains D g) : Type 0 where
   pub cause : (why ≡ NoEvent) ⊎ IsLoadFault why
   pub unopened : IfUnopened (SparesAt image) why what
   pub first : WasOpenedClean what → (db : Database) × IsDatabase db × AreFoundIn image db.trees × NamesFirstFault db why
@@ -52,7 +52,7 @@ WorksOn g old (Migration told) new = MovesFile g old told new
 
 -- No event was made: the file has one, or memory or the store fails. What the file held is left then, alone or with the event's tables
 -- beside it, or, where no foreign key waited for one of them, that event whole; and of a file that a history left just that.
-pub record HasMadeNone {D : Type 0} {g : disk.Ghosts D} (image : Image) (new : Point) (why : Refusal) (what : Left D g)
+pub record HasMadeNone {D : Type 0} {g : disk.Ghosts D} (image : Image) (new : Point) (why : Refusal) (what : Remains D g)
     : Type 0 where
   pub cause : (why ≡ EventExists) ⊎ IsFault why
   pub unopened : IfUnopened (SparesAt image) why what
@@ -68,7 +68,7 @@ pub record HasMadeNone {D : Type 0} {g : disk.Ghosts D} (image : Image) (new : P
 
 -- An event was made, and its file put away: where no foreign key waited for its tables this begins the empty history, with which the next
 -- command line goes on. Or it was not. What may not be set up so is refused, and no file is given back.
-abbrev pub MakesEvent : {D : Type 0} (g : disk.Ghosts D) → Image → List ℕ → ℕ → ℕ → Told → Left D g → Type 0
+abbrev pub MakesEvent : {D : Type 0} (g : disk.Ghosts D) → Image → List ℕ → ℕ → ℕ → Told → Remains D g → Type 0
 MakesEvent {D} g image name rounds cut told what =
     (IsSetUp name rounds cut × (told ≡ Accepted (receipt 0))
     × ((desk : Desk (FileStore D g) over_files) × HasMade image name rounds cut desk × PutsAway desk what

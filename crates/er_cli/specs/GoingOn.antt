@@ -20,11 +20,11 @@ use Rattle.er_answers.specs.declared.question.Question.{Question}
 use Rattle.er_answers.specs.declared.question.Question.TheVariants.{Migrate}
 use Rattle.er_answers.specs.declared.question.Told.{Told}
 use Rattle.er_answers.specs.declared.question.Told.TheVariants.{Accepted, Refused}
-use Rattle.er_cli.specs.Left.{IfUnopened, WasOpenedClean}
+use Rattle.er_cli.specs.Remains.{IfUnopened, WasOpenedClean}
 use Rattle.er_cli.specs.Next.{GoesTo, RecoversSession, WasOpened}
 use Rattle.er_cli.specs.Tasks.{Work}
 use Rattle.er_cli.specs.Tasks.Work.{Commands, Migration}
-use Rattle.er_cli.specs.declared.left.Left.{Left}
+use Rattle.er_cli.specs.declared.remains.Remains.{Remains}
 
 -- The version of the tables that are left. A migration leads to version 2, and where it was cut off it may have done so or not. Nothing
 -- else changes it, and nothing leads back.
@@ -42,15 +42,15 @@ pub record MayMoveTables (image : Image) (point : Point) : Type 0 where
 
 -- The file was opened, this was asked of its event, and it was closed, or could not be. A migration asks no command of it; this is said of
 -- one where the tables may be moved.
-abbrev pub GoesOnBy : {D : Type 0} (d : disk.Ghosts D) → Image → Point → List Ended → Placed → Work → Left D d → Type 0
+abbrev pub GoesOnBy : {D : Type 0} (d : disk.Ghosts D) → Image → Point → List Ended → Placed → Work → Remains D d → Type 0
 GoesOnBy d image new ends first (Commands session) what = GoesTo d (λ version. version ≡ first.version) new ends session what
 GoesOnBy d image new ends first (Migration told) what =
     MayMoveTables image first.point → GoesTo d (LeadsToVersion Migrate told first.version) new ends no_session what
 
 -- An event was to be made where a history is. None was: it is refused that there is one, or for what was asked, or memory or the device fails.
 -- Nothing was asked, and what is left is what the history left.
-pub record MakesNoOther {D : Type 0} (d : disk.Ghosts D) (new : Point) (ends : List Ended) (first : Placed) (told : Told) (what : Left D d)
-    : Type 0 where
+pub record MakesNoOther {D : Type 0} (d : disk.Ghosts D) (new : Point) (ends : List Ended) (first : Placed) (told : Told)
+    (what : Remains D d) : Type 0 where
   -- if it was opened, then on a clean disk
   pub refused : (WasOpened what → WasOpenedClean what)
       → (why : Refusal) × (told ≡ Refused why) × ((why ≡ BadSetup) ⊎ (why ≡ EventExists) ⊎ IsFault why)
@@ -58,7 +58,7 @@ pub record MakesNoOther {D : Type 0} (d : disk.Ghosts D) (new : Point) (ends : L
 
 -- The event was not opened, for memory or by the device. Nothing was asked, and what is left is what the history left.
 pub record StaysUnopened {D : Type 0} (d : disk.Ghosts D) (image : Image) (new : Point) (ends : List Ended) (first : Placed)
-    (why : Refusal) (what : Left D d) : Type 0 where
+    (why : Refusal) (what : Remains D d) : Type 0 where
   pub fault : WasOpenedClean what → IsFault why
   pub leaves : RecoversSession d (λ version. version ≡ first.version) new ends no_session what
   -- what is left of files that were not opened, as the storage crate has it

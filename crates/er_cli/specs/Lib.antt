@@ -6,10 +6,10 @@
 -- again, Serving the clients of a listener. Help is what asks for a text, and where an answer goes, Texts what a writer holds then, and
 -- Complaints what a person is told of words that are no line. Script and Input are a script and its lines, Status how it ends.
 --
--- The second is what the file becomes, with no text. Left is what is left of it, Files what a line does to a file that may hold anything,
--- GoingOn to one that a history left, and Next how the next line finds it. Words joins the halves. Sessions are many command lines over
--- the same two files, in one call, and Clients are those whom a listener serves. Stopped is what a stop at any instant has to do with what
--- a disk may leave at an exit.
+-- The second is what the file becomes, with no text. Remains is what is left of it, Files what a line does to a file that may hold
+-- anything, GoingOn to one that a history left, and Next how the next line finds it. Words joins the halves. Sessions are many command
+-- lines over the same two files, in one call, and Clients are those whom a listener serves. Stopped is what a stop at any instant has to
+-- do with what a disk may leave at an exit.
 --
 -- What private functions alone cite lies in `inside`.
 --
@@ -19,7 +19,7 @@
 --     and clients, and `run` clause `ends` of files that were empty.
 --   What is printed: a text or an answer on its stream, with the status that is due; or a write failed, a beginning is there, and the
 --     status is 3. How closing ends changes neither.
---   What is left (`PutsAway`, `ClosesFile`): closed files that hold one of the things that a crash could leave before, or a store that was
+--   What is left (`PutsAway`, `RemainsOf`): closed files that hold one of the things that a crash could leave before, or a store that was
 --     not closed, with nothing lost.
 --   `import`, by `Imports`: the names of the list in their order, until one is refused otherwise than with `NameTaken`; if the list can't
 --     be taken, nobody.
@@ -43,7 +43,7 @@ pub mod Input
 pub mod Action
 pub mod Script
 pub mod World
-pub mod Left
+pub mod Remains
 pub mod Next
 pub mod Status
 pub mod Help

@@ -14,9 +14,9 @@ use Rattle.er_desk.specs.Desk.{Point, Placed}
 use Rattle.er_desk.specs.Run.{Session}
 use Rattle.er_desk.specs.History.{Ended}
 use Rattle.er_desk.specs.Headline.{NextBegins, RecoversHistory, and_then}
-use Rattle.er_cli.specs.Left.{ListsByNumber}
-use Rattle.er_cli.specs.declared.left.Left.{Left}
-use Rattle.er_cli.specs.declared.left.Left.TheVariants as left
+use Rattle.er_cli.specs.Remains.{ListsByNumber}
+use Rattle.er_cli.specs.declared.remains.Remains.{Remains}
+use Rattle.er_cli.specs.declared.remains.Remains.TheVariants as left
 
 -- in these two files, with the log and without it, the next command line finds the history with this session behind it
 pub record FindsNext (new : Point) (ends : List Ended) (session : Session) (last : Placed) (image : Image) : Type 0 where
@@ -45,7 +45,7 @@ pub record KeepsNext {D : Type 0} (d : disk.Ghosts D) (In : ℕ → Type 0) (new
 
 -- What is left of a file in which a session was asked: on a clean disk the next command line finds the history with the session behind it,
 -- in tables of one of these versions.
-abbrev pub RecoversSession : {D : Type 0} (d : disk.Ghosts D) → (ℕ → Type 0) → Point → List Ended → Session → Left D d → Type 0
+abbrev pub RecoversSession : {D : Type 0} (d : disk.Ghosts D) → (ℕ → Type 0) → Point → List Ended → Session → Remains D d → Type 0
 RecoversSession d In new ends session left.Nothing = Unit {0}
 RecoversSession d In new ends session (left.Closed files) =
     AreClean d files.log files.db → (last : Placed) × In last.version × RecoversNext d new ends session last files
@@ -53,15 +53,15 @@ RecoversSession d In new ends session (left.Unclosed store) = IsClean (view stor
 RecoversSession d In new ends session (left.Unopened rest) = Unit {0}
 
 -- what is given back are closed files, or a store that was not closed
-abbrev pub WasOpened : {D : Type 0} {d : disk.Ghosts D} → Left D d → Type 0
+abbrev pub WasOpened : {D : Type 0} {d : disk.Ghosts D} → Remains D d → Type 0
 WasOpened left.Nothing = ⊥
 WasOpened (left.Closed files) = Unit {0}
 WasOpened (left.Unclosed store) = Unit {0}
 WasOpened (left.Unopened rest) = ⊥
 
 -- A file was opened and put away. On a clean disk the next command line finds the history with this session behind it.
-pub record GoesTo {D : Type 0} (d : disk.Ghosts D) (In : ℕ → Type 0) (new : Point) (ends : List Ended) (session : Session) (what : Left D d)
-    : Type 0 where
+pub record GoesTo {D : Type 0} (d : disk.Ghosts D) (In : ℕ → Type 0) (new : Point) (ends : List Ended) (session : Session)
+    (what : Remains D d) : Type 0 where
   pub put_away : WasOpened what
   pub leaves : RecoversSession d In new ends session what
   -- where a command is in doubt, a store that was not closed lists its tables by number

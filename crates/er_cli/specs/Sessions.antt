@@ -27,9 +27,9 @@ use Rattle.er_answers.specs.declared.question.Question.{Question}
 use Rattle.er_answers.specs.declared.question.Question.TheVariants.{Migrate}
 use Rattle.er_answers.specs.declared.question.Told.{Told}
 use Rattle.er_cli.specs.GoingOn.{LeadsToVersion, MayMoveTables}
-use Rattle.er_cli.specs.Left.{IfUnopened, ClosesFile, WasOpenedClean}
+use Rattle.er_cli.specs.Remains.{IfUnopened, RemainsOf, WasOpenedClean}
 use Rattle.er_cli.specs.Next.{RecoversSession, RecoversIn, WasOpened}
-use Rattle.er_cli.specs.declared.left.Left.{Left}
+use Rattle.er_cli.specs.declared.remains.Remains.{Remains}
 
 -- Files that were closed, or cut off. Each pair of bytes that a crash may leave holds a database that it could leave before.
 pub record AreCut {D : Type 0} (d : disk.Ghosts D) (s : State) (files : Files D) : Type 0 where
@@ -38,18 +38,18 @@ pub record AreCut {D : Type 0} (d : disk.Ghosts D) (s : State) (files : Files D)
 
 module _ {D : Type 0} {d : disk.Ghosts D} where
   -- the next session may open them, or they could not be closed
-  abbrev pub IsClosedOrKept : State → Result (Files D) (Left D d) → Type 0
+  abbrev pub IsClosedOrKept : State → Result (Files D) (Remains D d) → Type 0
   IsClosedOrKept s (Ok files) = AreClean d files.log files.db → AreCut d s files
-  IsClosedOrKept s (Err what) = ClosesFile s what
+  IsClosedOrKept s (Err what) = RemainsOf s what
 
   -- where a file was opened, and its disk is clean
-  abbrev pub IfCleanFiles : Type 0 → Result (Files D) (Left D d) → Type 0
+  abbrev pub IfCleanFiles : Type 0 → Result (Files D) (Remains D d) → Type 0
   IfCleanFiles Is (Ok files) = AreClean d files.log files.db → Is
   IfCleanFiles Is (Err what) = WasOpenedClean what → Is
 
 -- On a clean disk each pair of bytes that a crash may leave was left by the history with this session behind it, in one of these versions.
 abbrev pub RecoversAfterSession : {D : Type 0} (d : disk.Ghosts D) → (ℕ → Type 0) → Point → List Ended → Session
-    → Result (Files D) (Left D d)
+    → Result (Files D) (Remains D d)
     → Type 0
 RecoversAfterSession d In new ends session (Ok files) =
     AreClean d files.log files.db → (image : Image) → outcomes d files.log files.db image → ∥ RecoversIn In new ends session image ∥₁
@@ -104,7 +104,7 @@ VersionAfter questions (Err why) was now = now ≡ was
 
 -- This desk was asked all of it, or there was no memory for the answers, and its files were let go.
 pub record AsksOver {D : Type 0} {d : disk.Ghosts D} (desk : Desk (FileStore D d) over_files) (questions : List Question)
-    (answers : Result (Vec Told Global) Refusal) (files : Result (Files D) (Left D d)) : Type 0 where
+    (answers : Result (Vec Told Global) Refusal) (files : Result (Files D) (Remains D d)) : Type 0 where
   pub last : Desk (FileStore D d) over_files
   pub let_go : IsClosedOrKept (state over_files last) files
   pub rests : Asks over_files last no_session last
@@ -118,7 +118,7 @@ IsHeld first questions (Err why) session = (session ≡ no_session) × IsFault w
 
 -- The history goes on with this session, which began where it ended.
 pub record HoldsNext {D : Type 0} (d : disk.Ghosts D) (new : Point) (ends : List Ended) (first : Placed) (files : Files D)
-    (questions : List Question) (answers : Result (Vec Told Global) Refusal) (now : Result (Files D) (Left D d)) : Type 0 where
+    (questions : List Question) (answers : Result (Vec Told Global) Refusal) (now : Result (Files D) (Remains D d)) : Type 0 where
   pub session : Session
   pub held : IfCleanFiles (IsHeld first questions answers session) now
   pub leaves : RecoversAfterSession d (VersionAfter questions answers first.version) new ends session now
@@ -153,7 +153,7 @@ HoldsEach d new ends first image sessions answers now =
 
 -- The last of those that were begun could not open its files, or not close them. Those before it were held, and this is left of it.
 pub record HoldsSome {D : Type 0} (d : disk.Ghosts D) (new : Point) (ends : List Ended) (first : Placed) (image : Image)
-    (sessions : List (Vec Question Global)) (answers : List (Result (Vec Told Global) Refusal)) (what : Left D d) : Type 0 where
+    (sessions : List (Vec Question Global)) (answers : List (Result (Vec Told Global) Refusal)) (what : Remains D d) : Type 0 where
   pub done : List (Vec Question Global)
   pub questions : Vec Question Global
   pub later : List (Vec Question Global)
@@ -169,6 +169,6 @@ pub record HoldsSome {D : Type 0} (d : disk.Ghosts D) (new : Point) (ends : List
 
 -- all of them were held, or some
 abbrev pub HoldsAll : {D : Type 0} (d : disk.Ghosts D) → Point → List Ended → (first : Placed) → Image → List (Vec Question Global)
-    → List (Result (Vec Told Global) Refusal) → Result (Files D) (Left D d) → Type 0
+    → List (Result (Vec Told Global) Refusal) → Result (Files D) (Remains D d) → Type 0
 HoldsAll d new ends first image sessions answers (Ok now) = HoldsEach d new ends first image sessions answers now
 HoldsAll d new ends first image sessions answers (Err what) = HoldsSome d new ends first image sessions answers what

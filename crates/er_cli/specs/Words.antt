@@ -24,11 +24,11 @@ use Rattle.er_cli.specs.Clients.{Got}
 use Rattle.er_cli.specs.Complaints.{EndsAsUsage}
 use Rattle.er_cli.specs.Files.{IsNotOpened, IsNotThere, MakesEvent, WorksOn}
 use Rattle.er_cli.specs.GoingOn.{GoesOnBy, MakesNoOther, StaysUnopened}
-use Rattle.er_cli.specs.Left.{PutsAway, WasOpenedClean}
+use Rattle.er_cli.specs.Remains.{PutsAway, WasOpenedClean}
 use Rattle.er_cli.specs.Tasks.{Work, AnswersTask, DoesTask}
 use Rattle.er_cli.specs.World.{World}
-use Rattle.er_cli.specs.declared.left.Left.{Left}
-use Rattle.er_cli.specs.declared.left.Left.TheVariants.{Nothing}
+use Rattle.er_cli.specs.declared.remains.Remains.{Remains}
+use Rattle.er_cli.specs.declared.remains.Remains.TheVariants.{Nothing}
 use Rattle.er_cli.specs.Help.{Printed, Says, Tells, asks_text, text_for}
 
 -- There is something that was done, by a desk or without one, of which this is told, and of which the file became this.
@@ -43,7 +43,7 @@ Does g world got desk task last p = TellsAndLeaves
     (λ (work : Work). DoesTask world got (HasCleanDisk (state g last) × HoldsOwnEvent g desk) (desk_state desk) task work (desk_state last) p)
     (λ (work : Work). WorksOn g desk work last)
 
-module _ {D : Type 0} (g : disk.Ghosts D) (world : World) (got : Option (List Got)) (file : List ℕ) (what : Left D g) (p : Printed) where
+module _ {D : Type 0} (g : disk.Ghosts D) (world : World) (got : Option (List Got)) (file : List ℕ) (what : Remains D g) (p : Printed) where
   -- Over a file that may hold anything, a line makes an event. Or it opens the event there, does one task with it and puts its file away;
   -- or none was opened, and why is told.
   abbrev pub EndsLine : Action → Type 0
@@ -57,7 +57,7 @@ module _ {D : Type 0} (g : disk.Ghosts D) (world : World) (got : Option (List Go
       (λ (why : Refusal). IsNotThere (world.is_there file) why what
       ⊎ ((world.is_there file ≢ Some false) × IsNotOpened (world.image file) why what))
 
-pub record EndsWords {D : Type 0} (g : disk.Ghosts D) (world : World) (got : Option (List Got)) (words : List (List ℕ)) (what : Left D g)
+pub record EndsWords {D : Type 0} (g : disk.Ghosts D) (world : World) (got : Option (List Got)) (words : List (List ℕ)) (what : Remains D g)
     (p : Printed) : Type 0 where
   -- A text that the words ask for goes to the output, and no file is given back.
   pub asked : IfSome (text_for words) (λ text. (what ≡ Nothing) × Says text DONE p.out p.err p.status)
@@ -70,7 +70,7 @@ pub record EndsWords {D : Type 0} (g : disk.Ghosts D) (world : World) (got : Opt
 module _ {D : Type 0} (d : disk.Ghosts D) (world : World) (file : List ℕ) where
   -- Any history that left the file goes on with what a task does to the event there, and the answer is that of the event at its end. Or
   -- the event was not opened, and why is told.
-  abbrev pub GoesOnTask : Task → Left D d → Printed → Type 0
+  abbrev pub GoesOnTask : Task → Remains D d → Printed → Type 0
   GoesOnTask task what p =
       (new : Point) (first : Placed) (ends : List Ended) → RecoversHistory (world.image file) new ends first
       → TellsAndLeaves (λ (work : Work). AnswersTask (WasOpenedClean what) first task work p)
@@ -79,7 +79,7 @@ module _ {D : Type 0} (d : disk.Ghosts D) (world : World) (file : List ℕ) wher
       (λ (why : Refusal). StaysUnopened d (world.image file) new ends first why what)
 
   -- of a line: `init` makes no other event there. Or the file of one that opens it is not there.
-  abbrev pub GoesOnAction : Action → Left D d → Printed → Type 0
+  abbrev pub GoesOnAction : Action → Remains D d → Printed → Type 0
   GoesOnAction (Init name rounds cut) what p =
       (new : Point) (first : Placed) (ends : List Ended) → RecoversHistory (world.image file) new ends first
       → TellsAndLeaves (λ (told : Told). Tells told p) (λ (told : Told). MakesNoOther d new ends first told what)
@@ -88,5 +88,5 @@ module _ {D : Type 0} (d : disk.Ghosts D) (world : World) (file : List ℕ) wher
       ⊎ GoesOnTask task what p
 
 -- with what words do that are a line
-abbrev pub GoesOnWords : {D : Type 0} (d : disk.Ghosts D) → World → List (List ℕ) → Left D d → Printed → Type 0
+abbrev pub GoesOnWords : {D : Type 0} (d : disk.Ghosts D) → World → List (List ℕ) → Remains D d → Printed → Type 0
 GoesOnWords d world words what p = IfSome (line_of words) (λ line. GoesOnAction d world (file_of line) (action_of line) what p)

@@ -4,14 +4,14 @@ ghost use Rattle.sqlite_wal.specs.Reads.{IsClean};
 ghost use Rattle.sqlite_store.specs.FileStore.{state as store_state};
 ghost use Rattle.sqlite.specs.Files.{file_state, IsClosed};
 ghost use Rattle.er_desk.specs.Opening.{why_of};
-ghost use Rattle.er_cli.specs.Left.{IsClearedOf, ClosesFile, ListsByNumber, PutsAway};
+ghost use Rattle.er_cli.specs.Remains.{IsClearedOf, RemainsOf, ListsByNumber, PutsAway};
 ghost use Rattle.er_cli.specs.inside.Closing.{CopiesLog};
 ghost use Rattle.sqlite_store.specs.FileStore.{view, faults, recovers, is_shielded};
 ghost use Rattle.sqlite_trees.specs.View.{IsQuiet, IsClean as IsSure, IsRolledBack as IsUndone};
 ghost use Rattle.sqlite.specs.Held.{AreDatabases};
 
 use crate::host::Host;
-use crate::left::{Left, NoDesk};
+use crate::remains::{OpenError, Remains};
 use er_desk::{Desk, OpenFault, into_connection};
 use sqlite::{Connection, FileStore, Leftover};
 use sqlite_disk::Disk;
@@ -69,35 +69,39 @@ fn lengthen<D: Disk>(log: &mut D)
 }
 
 /// Closes a connection to a file: copies the log into the database file. Where that fails, the log keeps what it has.
-pub fn close<D: Disk + Drop>(conn: Connection<FileStore<D>>) -> Left<D>
-    ensures { ClosesFile (file_state conn) result }
+pub fn close<D: Disk + Drop>(conn: Connection<FileStore<D>>) -> Remains<D>
+    ensures { RemainsOf (file_state conn) result }
 {
     match copy_log(conn) {
         Ok(store) => {
             let mut files = store.close();
             lengthen(&mut files.log);
-            Left::Closed(files)
+            Remains::Closed(files)
         }
-        Err(store) => Left::Unclosed(store),
+        Err(store) => Remains::Unclosed(store),
     }
 }
 
-/// Takes the files of a connection as they are, and writes nothing.
-pub fn take<D: Disk + Drop>(conn: Connection<FileStore<D>>) -> Left<D>
-    ensures taken { ClosesFile (file_state conn) result }
+/// Gives the files of a connection back as they are, open, and writes nothing.
+pub fn keep_open<D: Disk + Drop>(conn: Connection<FileStore<D>>) -> Remains<D>
+    ensures taken { RemainsOf (file_state conn) result }
     ensures numbered { ListsByNumber result }
 {
-    Left::Unclosed(into_store(conn))
+    Remains::Unclosed(into_store(conn))
 }
 
 /// Closes the desk of a file at the end of a run, and gives back what is left of the file. After a fault of the store its log is left for
 /// the next opening, which finds in it what a stop would have left.
-pub fn put_away<D: Disk + Drop>(desk: Desk<FileStore<D>>) -> Left<D>
+pub fn put_away<D: Disk + Drop>(desk: Desk<FileStore<D>>) -> Remains<D>
     ensures { PutsAway desk result }
 {
     let is_over = desk.needs_reopen();
     let conn = into_connection(desk);
-    if is_over { take(conn) } else { close(conn) }
+    if is_over {
+        keep_open(conn)
+    } else {
+        close(conn)
+    }
 }
 
 /// Where the log of a file lies: beside what a link leads to.
@@ -158,14 +162,14 @@ fn clear_refused<H: Host>(
     host: &mut H,
     conn: Connection<FileStore<H::File>>,
     log: Option<&NewLog>,
-) -> Left<H::File>
-    ensures { ClosesFile (file_state conn) result }
+) -> Remains<H::File>
+    ensures { RemainsOf (file_state conn) result }
 {
     let Some(log) = log else {
-        return take(conn);
+        return keep_open(conn);
     };
     let left = close(conn);
-    if let Left::Closed(_files) = &left {
+    if let Remains::Closed(_files) = &left {
         host.remove_empty(log, &left);
     }
     left
@@ -177,13 +181,13 @@ fn clear_unopened<H: Host>(
     host: &mut H,
     left: Option<Leftover<H::File>>,
     log: Option<&NewLog>,
-) -> Left<H::File>
-    ensures { MatchOption left (result ≡ Left.Nothing) (λ rest. result ≡ Left.Unopened rest) }
+) -> Remains<H::File>
+    ensures { MatchOption left (result ≡ Remains.Nothing) (λ rest. result ≡ Remains.Unopened rest) }
 {
     let Some(rest) = left else {
-        return Left::Nothing;
+        return Remains::Nothing;
     };
-    let left = Left::Unopened(rest);
+    let left = Remains::Unopened(rest);
     if let Some(log) = log
         && !log.is_beside_nothing
     {
@@ -197,7 +201,7 @@ pub fn clear_fault<H: Host>(
     host: &mut H,
     fault: OpenFault<H::File>,
     log: Option<&NewLog>,
-) -> NoDesk<H::File>
+) -> OpenError<H::File>
     ensures why { result.why ≡ why_of fault }
     ensures left { IsClearedOf fault result.left }
 {
@@ -206,5 +210,5 @@ pub fn clear_fault<H: Host>(
         OpenFault::Unopened { left, .. } => clear_unopened(host, left, log),
         OpenFault::Refused { conn, .. } => clear_refused(host, conn, log),
     };
-    NoDesk { why, left }
+    OpenError { why, left }
 }

@@ -12,7 +12,7 @@ ghost use Rattle.er_desk.specs.Reply.{receipt};
 ghost use Rattle.er_cli.specs.declared.action.Action.TheVariants.{Init, Open};
 ghost use Rattle.er_cli.specs.Action.{action_of, file_of};
 ghost use Rattle.er_store.specs.Fault.{IsFault};
-ghost use Rattle.er_cli.specs.Left.{PutsAway};
+ghost use Rattle.er_cli.specs.Remains.{PutsAway};
 ghost use Rattle.er_desk.specs.Files.{HasMade};
 ghost use Rattle.er_cli.specs.Files.{HasMadeNone};
 ghost use Rattle.er_cli.specs.Serving.{ServesClients};
@@ -25,8 +25,8 @@ use crate::closing::{clear_fault, put_away};
 use crate::help::CANNOT_LISTEN;
 use crate::host::Host;
 use crate::importing::import;
-use crate::left::{Left, NoDesk, Ran};
 use crate::opening::{create_desk, open_desk};
+use crate::remains::{OpenError, Outcome, Remains};
 use crate::serving::serve_all;
 use crate::setup::set_up;
 use crate::texts::Print;
@@ -63,7 +63,7 @@ fn create<H: Host>(
     name: Name,
     rounds: u8,
     cut: u8,
-) -> Result<Desk<FileStore<H::File>>, NoDesk<H::File>>
+) -> Result<Desk<FileStore<H::File>>, OpenError<H::File>>
     requires shut { IsTrue (H.is_shut host.old) }
     requires limits { AreLimits rounds cut }
     ensures { MatchResult result (HasMade ((H.world host.old).image path.now) name rounds cut)
@@ -87,16 +87,16 @@ fn init<H: Host>(
     name: &[u8],
     rounds: u8,
     cut: u8,
-) -> Result<Desk<FileStore<H::File>>, NoDesk<H::File>>
+) -> Result<Desk<FileStore<H::File>>, OpenError<H::File>>
     requires shut { IsTrue (H.is_shut host.old) }
     ensures { InitReplies H.File.Disk ((H.world host.old).image path.now)
         name.now rounds cut result }
 {
     match set_up(alloc, name, rounds, cut) {
         Ok(name) => create(alloc, host, path, name, rounds, cut),
-        Err(why) => Err(NoDesk {
+        Err(why) => Err(OpenError {
             why,
-            left: Left::Nothing,
+            left: Remains::Nothing,
         }),
     }
 }
@@ -106,7 +106,7 @@ fn print_made<D: Disk + Drop, O: Print, E: Print>(
     desk: Desk<FileStore<D>>,
     out: &mut O,
     err: &mut E,
-) -> Ran<D>
+) -> Outcome<D>
     ensures put_away { PutsAway desk result.left }
     ensures asks { Asks over_files desk no_session desk }
     ensures told { Tells (Told.Accepted (receipt 0))
@@ -116,7 +116,7 @@ fn print_made<D: Disk + Drop, O: Print, E: Print>(
     // A desk that is only looked at asks nothing of its file: this tells the proof.
     desk.asks_nothing();
     let status = print(out, err, &Told::Accepted(Receipt { serial: 0 }));
-    Ran {
+    Outcome {
         status,
         left: put_away(desk),
     }
@@ -132,7 +132,7 @@ fn make<H: Host, O: Print, E: Print>(
     cut: u8,
     out: &mut O,
     err: &mut E,
-) -> Ran<H::File>
+) -> Outcome<H::File>
     requires shut { IsTrue (H.is_shut host.old) }
     ensures { EndsLine H.File.Disk (H.world host.old) (H.got host.new) path.now result.left
         (prints (O.printed out.old) (O.printed out.new)
@@ -164,7 +164,7 @@ fn listen<H: Host, S: Alter, O: Print, E: Print>(
     // Where nobody is listened to, nothing is asked of the file: this tells the proof.
     desk.asks_nothing();
     let Ok(routes) = Routes::new(alloc) else {
-        return tell_refusal(out, err, Refusal::Memory);
+        return print(out, err, &Told::Refused(Refusal::Memory));
     };
     match host.listen(port) {
         Ok((visitors, at)) => {
@@ -207,7 +207,7 @@ fn do_and_close<H: Host, O: Print, E: Print>(
     task: Task,
     out: &mut O,
     err: &mut E,
-) -> Ran<H::File>
+) -> Outcome<H::File>
     requires sound { IsSound desk.event }
     requires low { desk.serial ≤ MAX_SERIAL }
     requires ready { IsFalse (desk_state desk).needs_reopen }
@@ -216,49 +216,25 @@ fn do_and_close<H: Host, O: Print, E: Print>(
         × PutsAway last result.left }
 {
     let status = do_task(alloc, host, &mut desk, task, out, err);
-    Ran {
+    Outcome {
         status,
         left: put_away(desk),
     }
-}
-
-/// Tells why a file was not opened.
-fn tell_refusal<O: Print, E: Print>(out: &mut O, err: &mut E, why: Refusal) -> u8
-    ensures { Tells (Told.Refused why) (prints (O.printed out.old) (O.printed out.new)
-        (E.printed err.old) (E.printed err.new) result) }
-{
-    print(out, err, &Told::Refused(why))
 }
 
 /// Tells why there is no desk over a file, and gives back what is left of that.
 fn tell_no_desk<D: Disk + Drop, O: Print, E: Print>(
     out: &mut O,
     err: &mut E,
-    none: NoDesk<D>,
-) -> Ran<D>
+    none: OpenError<D>,
+) -> Outcome<D>
     ensures left { result.left ≡ none.left }
     ensures told { Tells (Told.Refused none.why) (prints (O.printed out.old) (O.printed out.new)
         (E.printed err.old) (E.printed err.new) result.status) }
 {
-    Ran {
-        status: tell_refusal(out, err, none.why),
+    Outcome {
+        status: print(out, err, &Told::Refused(none.why)),
         left: none.left,
-    }
-}
-
-/// Tells why no file was opened.
-fn tell_unopened<D: Disk + Drop, O: Print, E: Print>(
-    out: &mut O,
-    err: &mut E,
-    why: Refusal,
-) -> Ran<D>
-    ensures left { result.left ≡ Left.Nothing }
-    ensures told { Tells (Told.Refused why) (prints (O.printed out.old) (O.printed out.new)
-        (E.printed err.old) (E.printed err.new) result.status) }
-{
-    Ran {
-        status: tell_refusal(out, err, why),
-        left: Left::Nothing,
     }
 }
 
@@ -270,7 +246,7 @@ fn open<H: Host, O: Print, E: Print>(
     task: Task,
     out: &mut O,
     err: &mut E,
-) -> Ran<H::File>
+) -> Outcome<H::File>
     requires shut { IsTrue (H.is_shut host.old) }
     requires there { (H.world host.old).is_there path.now ≢ Some false }
     ensures ends { EndsLine H.File.Disk (H.world host.old) (H.got host.new) path.now result.left
@@ -297,7 +273,7 @@ pub fn run_line<H: Host, O: Print, E: Print>(
     line: Line,
     out: &mut O,
     err: &mut E,
-) -> Ran<H::File>
+) -> Outcome<H::File>
     requires shut { IsTrue (H.is_shut host.old) }
     ensures ends { EndsLine H.File.Disk (H.world host.old) (H.got host.new) (file_of line) result.left
         (prints (O.printed out.old) (O.printed out.new)
@@ -316,7 +292,10 @@ pub fn run_line<H: Host, O: Print, E: Print>(
         }
         Action::Open { task } => match find_file(host, path) {
             Ok(()) => open(alloc, host, path, task, out, err),
-            Err(why) => tell_unopened(out, err, why),
+            Err(why) => {
+                let left = Remains::Nothing;
+                tell_no_desk(out, err, OpenError { why, left })
+            }
         },
     }
 }

@@ -1,9 +1,5 @@
-ghost use Rattle.std.specs.Prelude.{◌≡◌, [], ◌∷◌, OnOk, OnErr, map, option_map, string_bytes};
-ghost use Rattle.std.specs.Io.KnownBytes.{Appends};
+ghost use Rattle.std.specs.Prelude.{◌≡◌, map, option_map, string_bytes};
 ghost use Rattle.er_cli.specs.Help.{option_text, subcommand_text, text_for};
-ghost use Rattle.er_cli.specs.Texts.{AppendsPart};
-
-use crate::texts::{Print, WriteFault};
 
 /// What `--version` prints.
 pub const VERSION: &str = "event_reporter 0.1.0\n";
@@ -46,7 +42,8 @@ checks an event by a second reading of the rules. Each says more by --help.
 
 Copy FILE while nothing uses it, before each pair, cut, drop and migrate: a copy
 is the only way back. Without words, the program reads the same commands as a
-script, one per line without FILE, the words separated by one TAB:
+script, one per line without FILE, the words separated by one TAB. A script
+keeps its event in memory only:
 
   printf 'init\\tFriday\\t3\\t0\\nplayers\\n' | event_reporter
 
@@ -327,32 +324,12 @@ one command per line, the words separated by one TAB. Ctrl-D ends the script,
 Ctrl-C stops the program. For an event in a file, try: event_reporter --help
 ";
 
-/// Prints a text.
-pub fn print_text<W: Print>(writer: &mut W, text: &str) -> Result<(), WriteFault>
-    ensures sent { OnOk result (Appends (W.printed writer.old) (W.printed writer.new) text.now) }
-    ensures part { OnErr result (AppendsPart (W.printed writer.old) (W.printed writer.new) text.now) }
-{
-    writer.print(text.as_bytes())
-}
-
-/// The text that an option asks for.
-fn option_text(word: &str) -> Option<&'static str>
-    ensures { option_map (λ text. text.now) result ≡ option_text HELP.now word.now }
+/// The text that an option asks for: this help, or the version.
+fn option_text(help: &'static str, word: &str) -> Option<&'static str>
+    ensures { option_map (λ text. text.now) result ≡ option_text help.now word.now }
 {
     match word {
-        "--help" | "-h" => Some(HELP),
-        "--version" | "-V" => Some(VERSION),
-        _ => None,
-    }
-}
-
-/// The text that an option behind a subcommand asks for.
-fn text_behind(name: &str, word: &str) -> Option<&'static str>
-    ensures { option_map (λ text. text.now) result ≡ text_for (name.now ∷ word.now ∷ []) }
-{
-    let text = subcommand_text(name)?;
-    match word {
-        "--help" | "-h" => Some(text),
+        "--help" | "-h" => Some(help),
         "--version" | "-V" => Some(VERSION),
         _ => None,
     }
@@ -389,8 +366,8 @@ pub fn text_for(words: &[String]) -> Option<&'static str>
     ensures { option_map (λ text. text.now) result ≡ text_for (map string_bytes words.now) }
 {
     match words {
-        [word] => option_text(word.as_str()),
-        [name, word] => text_behind(name.as_str(), word.as_str()),
+        [word] => option_text(HELP, word.as_str()),
+        [name, word] => option_text(subcommand_text(name.as_str())?, word.as_str()),
         _ => None,
     }
 }

@@ -3,12 +3,12 @@ ghost use Rattle.std.specs.Prelude.{◌≡◌, ◌⊎◌, ◌≤◌, Bool, true,
 ghost use Rattle.sqlite_wal.specs.Files.{image_at};
 ghost use Rattle.er_desk.specs.Opening.{OpensImage};
 ghost use Rattle.er_cli.specs.Clients.{Got};
-ghost use Rattle.er_cli.specs.Left.{NeedsNoLog};
+ghost use Rattle.er_cli.specs.Remains.{NeedsNoLog};
 ghost use Rattle.er_cli.specs.World.{World, KeepsListsAndClients, untold};
 
 use crate::clients::{Clients, Listening};
 use crate::closing::{NewLog, log_to_make, remove_empty};
-use crate::left::Left;
+use crate::remains::Remains;
 use er_desk::{Opened, open_files};
 use sqlite::{FileFrom, Start};
 use sqlite_disk::Disk;
@@ -68,7 +68,7 @@ pub trait Host {
 
     /// Removes a log that the opening has made, if nothing is in it. What is left of the file needs no log, and whoever calls still holds it, so
     /// that nobody else writes it.
-    fn remove_empty(&mut self, log: &NewLog, left: &Left<Self::File>)
+    fn remove_empty(&mut self, log: &NewLog, left: &Remains<Self::File>)
         requires { NeedsNoLog left.now };
 }
 
@@ -133,7 +133,7 @@ impl<'a, S: Start> Host for System<'a, S> {
 
     fn leave(&mut self, _visitors: Listening<'a>) {}
 
-    fn remove_empty(&mut self, log: &NewLog, _left: &Left<FileFrom<S>>)
+    fn remove_empty(&mut self, log: &NewLog, _left: &Remains<FileFrom<S>>)
         ensures { self.new ≡ self.old }
     {
         remove_empty(self.rt, log)

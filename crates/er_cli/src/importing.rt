@@ -9,7 +9,7 @@ ghost use Rattle.er_cli.specs.Help.{PutsText, prints, stream};
 
 use crate::host::Host;
 use crate::input::{InputFault, read_whole};
-use crate::texts::{Print, WriteFault, print_line};
+use crate::texts::{Print, WriteFault};
 use crate::{DEVICE, DONE, REFUSED, end_with, print};
 use er_answers::Told;
 use er_desk::laws::lists_grow;
@@ -68,7 +68,7 @@ fn fault_line(fault: CsvFault) -> ShortText
 fn say_fault<W: Print>(writer: &mut W, fault: CsvFault) -> u8
     ensures { PutsText (fault_text fault) REFUSED (stream (W.printed writer.old) (W.printed writer.new)) result }
 {
-    match print_line(writer, &fault_line(fault)) {
+    match writer.print(fault_line(fault).as_slice()) {
         Ok(()) => REFUSED,
         Err(WriteFault) => DEVICE,
     }
@@ -146,7 +146,7 @@ fn print_additions<O: Print, E: Print>(out: &mut O, err: &mut E, enrolled: Enrol
         (prints (O.printed out.old) (O.printed out.new)
         (E.printed err.old) (E.printed err.new) result) }
 {
-    let Ok(()) = print_line(out, &additions_line(enrolled.additions)) else {
+    let Ok(()) = out.print(additions_line(enrolled.additions).as_slice()) else {
         return DEVICE;
     };
     match enrolled.stop {

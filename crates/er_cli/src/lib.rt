@@ -25,8 +25,8 @@ mod host;
 mod importing;
 mod input;
 pub mod laws;
-mod left;
 mod opening;
+mod remains;
 mod script;
 mod serving;
 mod sessions;
@@ -41,13 +41,13 @@ pub use er_answers::{Question, Told, View};
 use er_event::Refusal;
 pub use er_words::{ExportKind, FilePath, Line, LineFault, UsageFault, read_words};
 use files::run_line;
-use help::{AWAITING, print_text, text_for};
+use help::{AWAITING, text_for};
 pub use host::{Host, System};
 use input::{InputFault, lines_of, read_script};
-pub use left::{Left, Ran};
+pub use remains::{Outcome, Remains};
 use script::run_lines;
 pub use serving::{serve_all, serve_clients, serve_on};
-pub use sessions::{Held, Sessions, hold_sessions, next_session};
+pub use sessions::{SessionEnd, Sessions, hold_sessions, next_session};
 use sqlite::{FileFrom, Start, Wary};
 use sqlite_disk::Disk;
 use std::alloc::Global;
@@ -146,7 +146,7 @@ fn print<O: Print, E: Print>(out: &mut O, err: &mut E, told: &Told) -> u8
 fn end_with<W: Print>(writer: &mut W, text: &str, due: u8) -> u8
     ensures { PutsText text.now due (stream (W.printed writer.old) (W.printed writer.new)) result }
 {
-    match print_text(writer, text) {
+    match writer.print(text.as_bytes()) {
         Ok(()) => due,
         Err(WriteFault) => DEVICE,
     }
@@ -188,7 +188,7 @@ pub fn run_from<S: Start, O: Write, E: Write>(
     start: S,
     out: &mut O,
     err: &mut E,
-) -> Ran<FileFrom<S>>
+) -> Outcome<FileFrom<S>>
     ensures goes_on { GoesOnWords ⟦<FileFrom<S> as Disk>⟧ (untold (image_at S.Start))
         (map string_bytes words.now) result.left (prints (O.contents out.old) (O.contents out.new)
         (E.contents err.old) (E.contents err.new) result.status) }
@@ -208,7 +208,7 @@ pub fn run_on<H: Host, O: Print, E: Print>(
     words: &[String],
     out: &mut O,
     err: &mut E,
-) -> Ran<H::File>
+) -> Outcome<H::File>
     requires shut { IsTrue (H.is_shut host.old) }
     // The theorem. Of a file that a history of a new event left, the history goes on with what is asked of the desk: the one command,
     // enrolments, scores, or nothing. The answer is that of the event at its end; and in what is left of the file the next command line
@@ -223,20 +223,20 @@ pub fn run_on<H: Host, O: Print, E: Print>(
         (E.printed err.old) (E.printed err.new) result.status) }
 {
     if let Some(text) = text_for(words) {
-        return Ran {
+        return Outcome {
             status: end_with(out, text, DONE),
-            left: Left::Nothing,
+            left: Remains::Nothing,
         };
     }
     match read_words(alloc, words) {
         Ok(line) => run_line(alloc, host, line, out, err),
-        Err(LineFault::Usage(fault)) => Ran {
+        Err(LineFault::Usage(fault)) => Outcome {
             status: print_usage(alloc, words, fault, out, err),
-            left: Left::Nothing,
+            left: Remains::Nothing,
         },
-        Err(LineFault::Memory) => Ran {
+        Err(LineFault::Memory) => Outcome {
             status: print(out, err, &Told::Refused(Refusal::Memory)),
-            left: Left::Nothing,
+            left: Remains::Nothing,
         },
     }
 }
@@ -246,7 +246,7 @@ pub fn print_awaiting<E: Write>(err: &mut E)
     ensures { Appends (E.contents err.old) (E.contents err.new) AWAITING.now
         ⊎ AppendsPart (E.contents err.old) (E.contents err.new) AWAITING.now }
 {
-    let _ = print_text(err, AWAITING);
+    let _ = err.print(AWAITING.as_bytes());
 }
 
 /// Answers where there was no memory to read the words of the command line, and gives the status to end with.

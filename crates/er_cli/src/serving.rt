@@ -7,7 +7,7 @@ ghost use Rattle.er_cli.specs.Serving.{ConnectsMany, ConnectsNext, ConnectsUpTo,
 ghost use Rattle.er_cli.specs.inside.Serving.{listening_text, served_text};
 
 use crate::clients::{AcceptFault, Clients, Listening};
-use crate::texts::{Print, WriteFault, print_line};
+use crate::texts::{Print, WriteFault};
 use crate::{DEVICE, DONE};
 use er_desk::Desk;
 use er_paper::ShortText;
@@ -105,13 +105,13 @@ pub fn serve_all<S: Alter, C: Clients, W: Print>(
 {
     // Where nobody is served, nothing is asked of the file: this tells the proof.
     desk.asks_nothing();
-    let Ok(()) = print_line(out, &listening_line(port)) else {
+    let Ok(()) = out.print(listening_line(port).as_slice()) else {
         return DEVICE;
     };
     let Ok(()) = serve_clients(alloc, routes, desk, clients, count) else {
         return DEVICE;
     };
-    match print_line(out, &served_line(count)) {
+    match out.print(served_line(count).as_slice()) {
         Ok(()) => DONE,
         Err(WriteFault) => DEVICE,
     }

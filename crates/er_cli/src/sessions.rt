@@ -9,7 +9,7 @@ ghost use Rattle.er_cli.specs.Sessions.{AreCut, AsksAll, AsksOver, HoldsAll, Hol
 ghost use Rattle.er_cli.specs.inside.Sessions.{AsksAndCloses};
 
 use crate::closing::{close, into_store};
-use crate::left::Left;
+use crate::remains::Remains;
 use er_answers::{Question, Told, ask};
 use er_desk::laws::{next_sessions, sessions_join};
 use er_desk::{Desk, adopt_file};
@@ -23,9 +23,9 @@ use std::alloc::{AllocError, Global};
 /// A session over the files of an event: what its questions were answered, or why there was none, and the files, which the next session
 /// may open. Or they can't be opened, or closed, and what is left of them comes back.
 #[derive(Drop)]
-pub struct Held<D: Disk + Drop> {
+pub struct SessionEnd<D: Disk + Drop> {
     pub answers: Result<Vec<Told>, Refusal>,
-    pub files: Result<Files<D>, Left<D>>,
+    pub files: Result<Files<D>, Remains<D>>,
 }
 
 /// The files of a connection as they are, with nothing written.
@@ -40,14 +40,14 @@ fn cut<D: Disk + Drop>(conn: Connection<FileStore<D>>) -> Files<D>
 fn let_go<D: Disk + Drop>(
     conn: Connection<FileStore<D>>,
     is_over: bool,
-) -> Result<Files<D>, Left<D>>
+) -> Result<Files<D>, Remains<D>>
     ensures { IsClosedOrKept (file_state conn) result }
 {
     if is_over {
         return Ok(cut(conn));
     }
     match close(conn) {
-        Left::Closed(files) => Ok(files),
+        Remains::Closed(files) => Ok(files),
         left => Err(left),
     }
 }
@@ -92,17 +92,17 @@ fn hold<D: Disk + Drop>(
     alloc: Global,
     desk: Desk<FileStore<D>>,
     questions: Vec<Question>,
-) -> Held<D>
+) -> SessionEnd<D>
     ensures { AsksOver desk questions.items result.answers result.files }
 {
     let (asked, is_over, conn) = ask_and_close(alloc, desk, questions);
     let files = let_go(conn, is_over);
     match asked {
-        Ok(answers) => Held {
+        Ok(answers) => SessionEnd {
             answers: Ok(answers),
             files,
         },
-        Err(_error) => Held {
+        Err(_error) => SessionEnd {
             answers: Err(Refusal::Memory),
             files,
         },
@@ -115,7 +115,7 @@ pub fn next_session<D: Disk + Drop>(
     files: Files<D>,
     options: Options,
     questions: Vec<Question>,
-) -> Held<D>
+) -> SessionEnd<D>
     requires log { IsTrue (D.Disk.is_usable files.log) }
     requires db { IsTrue (D.Disk.is_usable files.db) }
     // Of files that a history left, the history goes on with this session.
@@ -134,14 +134,14 @@ pub fn next_session<D: Disk + Drop>(
     match Connection::open_files(alloc, files, options) {
         Ok(conn) => match adopt_file(alloc, conn) {
             Ok(desk) => hold(alloc, desk, questions),
-            Err((back, why)) => Held {
+            Err((back, why)) => SessionEnd {
                 answers: Err(why),
                 files: Ok(cut(back)),
             },
         },
-        Err((error, rest)) => Held {
+        Err((error, rest)) => SessionEnd {
             answers: Err(refusal_of(error)),
-            files: Err(Left::Unopened(rest)),
+            files: Err(Remains::Unopened(rest)),
         },
     }
 }
@@ -164,7 +164,7 @@ fn crash<D: Crash + Drop>(files: Files<D>) -> Files<D>
 #[derive(Drop)]
 pub struct Sessions<D: Disk + Drop> {
     pub answers: Vec<Result<Vec<Told>, Refusal>>,
-    pub files: Result<Files<D>, Left<D>>,
+    pub files: Result<Files<D>, Remains<D>>,
 }
 
 /// Holds sessions over the same files, one after the other, each with a crash behind it: closed, or cut off by a fault of the disk. One
@@ -192,7 +192,7 @@ pub fn hold_sessions<D: Crash + Drop>(
     let mut now = files;
     for questions in sessions {
         let held = next_session(alloc, now, options, questions);
-        let Held {
+        let SessionEnd {
             answers: told,
             files,
         } = held;

@@ -119,12 +119,3 @@ pub fn print_answer<W: Print>(writer: &mut W, answer: &LineAnswer) -> Result<(),
         LineAnswer::Usage => writer.print(b"usage\n"),
     }
 }
-
-/// Prints a line.
-pub fn print_line<W: Print>(writer: &mut W, line: &ShortText) -> Result<(), WriteFault>
-    ensures sent { OnOk result (Appends (W.printed writer.old) (W.printed writer.new) line.now) }
-    ensures part { OnErr result (AppendsPart (W.printed writer.old)
-        (W.printed writer.new) line.now) }
-{
-    writer.print(line.as_slice())
-}

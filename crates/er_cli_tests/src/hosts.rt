@@ -6,7 +6,7 @@ ghost use Rattle.er_cli.specs.Clients.{Got};
 ghost use Rattle.er_cli_tests.specs.Room.{room_image};
 
 use crate::clients::{Queue, both_are_answered, two_clients};
-use er_cli::{Host, Left, NewLog, Ran, run_on};
+use er_cli::{Host, NewLog, Outcome, Remains, run_on};
 use er_desk::Opened;
 use sqlite::{Connection, Error, ErrorCode, Files, Options};
 use sqlite_disk::{Disk, Memory};
@@ -84,7 +84,7 @@ impl Host for Room {
         self.gone = Some(visitors);
     }
 
-    fn remove_empty(&mut self, _log: &NewLog, _left: &Left<Memory>)
+    fn remove_empty(&mut self, _log: &NewLog, _left: &Remains<Memory>)
         ensures { self.new ≡ self.old }
     {}
 }
@@ -125,12 +125,12 @@ fn left_by(
     };
     let (mut out, mut err) = (Vec::new(alloc), Vec::new(alloc));
     let words = words(alloc, line)?;
-    let Ran { status, left } = run_on(alloc, &mut room, words.as_slice(), &mut out, &mut err);
+    let Outcome { status, left } = run_on(alloc, &mut room, words.as_slice(), &mut out, &mut err);
     if status != 0 || !is_answered(&room, line, &out, &err, answer) {
         return None;
     }
     match left {
-        Left::Closed(files) => Some(files),
+        Remains::Closed(files) => Some(files),
         _ => None,
     }
 }
@@ -180,8 +180,8 @@ fn is_absent(alloc: Global) -> Option<bool> {
     };
     let (mut out, mut err) = (Vec::new(alloc), Vec::new(alloc));
     let words = words(alloc, "start friday.event")?;
-    let Ran { status, left } = run_on(alloc, &mut room, words.as_slice(), &mut out, &mut err);
-    Some(status == 1 && out.is_empty() && room.files.is_some() && matches!(left, Left::Nothing))
+    let Outcome { status, left } = run_on(alloc, &mut room, words.as_slice(), &mut out, &mut err);
+    Some(status == 1 && out.is_empty() && room.files.is_some() && matches!(left, Remains::Nothing))
 }
 
 #[test]

@@ -26,7 +26,8 @@ module _ {S : Type 0} (g : Ghosts S) (old : Desk S g) (passing : Refusal)
   reads_tables new read runs same is does still = record {
     turn = subst (Reads passing (desk_state old) read) (sym is)
         (reads passing (desk_state old) (version_in new) (desk_state new).needs_reopen read runs does.version (does.as_call.stops runs));
-    asked = read_asks g old new _ read runs same does.version (does.as_call.stops runs) does.as_call.call.clean still does.as_call.call.kept does.crash left;
+    asked = read_asks g old new _ read runs same does.version (does.as_call.stops runs) does.as_call.call.clean still
+        does.as_call.call.kept does.crash left;
     same = still;
     left = leaves_all (state g old) (state g new) settled does.as_call.call.clean does.crash
         (λ clean. read_keeps _ read (desk_state new).needs_reopen (state g old) (state g new) (does.as_call.stops runs) (still clean)

@@ -25,13 +25,9 @@ fn event_after(alloc: Global, event: &Event, change: &Change) -> Result<Event, R
     ensures ok { IfOk result (λ next. next ≡ after event.now change.now) }
     ensures refused { IfErr result (λ why. why ≡ Refusal.Memory) }
 {
-    let Ok(copy) = event.copy(alloc) else {
-        return Err(Refusal::Memory);
-    };
-    match copy.apply(alloc, change) {
-        Ok(next) => Ok(next),
-        Err((_event, _error)) => Err(Refusal::Memory),
-    }
+    let copy = event.copy(alloc)?;
+    copy.apply(alloc, change)
+        .map_err(|(_event, error)| error.into())
 }
 
 /// Whether a player comes after the start, to tables of version 1: these have no place for the rounds that somebody missed.
@@ -151,10 +147,7 @@ impl<S: Alter> Desk<S> {
             ⊎ (IsFalse (desk_state self.now).needs_reopen × (why ≡ Refusal.Memory))) }
     {
         let event = self.event()?;
-        match standings(alloc, event) {
-            Ok(rows) => Ok(rows),
-            Err(_error) => Err(Refusal::Memory),
-        }
+        Ok(standings(alloc, event)?)
     }
 
     /// The standings of the event, by the totals and the meetings that its tables keep. It changes no table. Standings, and want of memory

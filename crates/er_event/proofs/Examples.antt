@@ -4,7 +4,7 @@ use Rattle.er_event.proofs.Prelude.{with_dropped, with_score, EventValue, RoundR
 use Rattle.er_event.proofs.Prelude.{is_swiss_score}
 use Rattle.er_event.proofs.Prelude.{is_playoff_score, totals, totals_of, with_round, SetScore}
 use Rattle.er_event.specs.{declared.changes.Change.Change, declared.totals.Totals.Totals, Results.{missed_rounds, results_of}}
-use Rattle.er_event.specs.{Recounted.is_recounted}
+use Rattle.er_event.specs.Altered.{may_alter_totals, is_corrected}
 use Rattle.std.specs.{Prelude.{◌≡◌, ℕ, pos, Bool, true, false, List, [], ◌∷◌, ◌++◌, map, replicate, codes, Some, None, refl}, Str.is_utf8}
 use Rattle.std.specs.Str.{chars}
 use Rattle.er_event.specs.{declared.rows.player.PlayerRow.PlayerRow, inside.Reading.is_absent_from_missed}
@@ -330,10 +330,16 @@ enrolled_after_the_round = refl
 pub dropped_late : totals (with_round (with_dropped over 5) (played 4 1 2 0 0 ∷ played 2 3 2 0 0 ∷ [])) 5 ≡ sum 0 1 0 0
 dropped_late = refl
 
--- the score that completes a round counts for those who missed it, and a correction for its two players alone
-pub whom_a_score_counts : map (λ (c : EventValue × Change). map (is_recounted c.0 c.1) c.0.players)
-    ((five, SetScore 1 1 (games 2 0 0)) ∷ (nearly, SetScore 1 2 (games 2 1 0)) ∷ (over, SetScore 1 1 (games 0 2 0)) ∷ [])
+abbrev scores_of_five : List (EventValue × Change)
+scores_of_five = (five, SetScore 1 1 (games 2 0 0)) ∷ (nearly, SetScore 1 2 (games 2 1 0)) ∷ (over, SetScore 1 1 (games 0 2 0)) ∷ []
+
+-- a score may alter totals once its round is complete
+pub which_scores_alter_totals : map (λ (c : EventValue × Change). may_alter_totals c.0 c.1) scores_of_five ≡ false ∷ true ∷ true ∷ []
+which_scores_alter_totals = refl
+
+-- a correction is one of two players
+pub whom_a_score_corrects : map (λ (c : EventValue × Change). map (λ (p : Player). is_corrected c.0 c.1 p.no) c.0.players) scores_of_five
     ≡ (false ∷ false ∷ false ∷ false ∷ false ∷ [])
-    ∷ (true ∷ true ∷ true ∷ true ∷ true ∷ [])
+    ∷ (false ∷ false ∷ false ∷ false ∷ false ∷ [])
     ∷ (false ∷ true ∷ false ∷ true ∷ false ∷ []) ∷ []
-whom_a_score_counts = refl
+whom_a_score_corrects = refl

@@ -30,5 +30,5 @@ mod MissedLemmas
 mod PlayedLemmas
 mod OverLemmas
 mod RescoredLemmas
-mod RecountedLemmas
+mod AlteredLemmas
 mod VersionLemmas

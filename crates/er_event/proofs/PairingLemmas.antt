@@ -1,11 +1,12 @@
 -- Rows of pairings, and the matches that they show.
-use Rattle.er_event.proofs.Prelude.{open_match, AreTables, FitRows, FitsRow, is_of, table_rows, is_bye, numbered_from}
+use Rattle.er_event.proofs.Prelude.{open_match, AreTables, FitRows, FitsRow, is_of, table_rows, is_bye, enumerate_from}
 use Rattle.er_event.proofs.Prelude.{keyed_round_rows, keyed_rows_from, pairing_row, Match, Round, PairingRow, All, Bool, IsFalse, IsTrue}
 use Rattle.er_event.proofs.Prelude.{List, MatchResult, None, Option, Result, Some, [], ap, ap₂, arith, false, get_or, inl, inr, length, map}
 use Rattle.er_event.proofs.Prelude.{not, pos, refl, subst, sym, take, true, ℕ, ℤ, ◌++◌, ◌+◌, ◌-◌, ◌<◌, ◌==◌, ◌∙◌, ◌∷◌, ◌≡◌, ◌≤◌, ◌⊎◌}
 use Rattle.er_event.proofs.Prelude.{Decides-int_eq, nat_tests, common_steps, All-push, All-take, take_more, none-some, Decides}
 use Rattle.std.proofs.{Common.filter, lemmas.List.Elements.{All-get_or, All-tail}}
-use Rattle.er_event.proofs.RowLemmas.{AreInTurn, agree, agree-Decides, length-numbered, numbered-push}
+use Rattle.std.proofs.lemmas.List.FromFn.{length-enumerate_from}
+use Rattle.er_event.proofs.RowLemmas.{AreInTurn, agree, agree-Decides, numbered-push}
 use Rattle.er_event.specs.Rows.{by_key}
 
 pub never_none : {X : Type 0} {Y : Type 0} (o : Option X) (x : X) → o ≡ None → o ≡ Some x → Y
@@ -29,8 +30,8 @@ nothing = record { round = pos 0; tab = pos 0; lo = pos 0; hi = pos 0; swapped =
 abbrev Numbered : Type 0
 Numbered = ℕ × Match
 
-sorted : (n : ℕ) (ms : List Match) → AreTables ms → (filter (λ (k : Numbered). is_bye k.1) (numbered_from n ms) ≡ [])
-    × (filter (λ (k : Numbered). not (is_bye k.1)) (numbered_from n ms) ≡ numbered_from n ms)
+sorted : (n : ℕ) (ms : List Match) → AreTables ms → (filter (λ (k : Numbered). is_bye k.1) (enumerate_from n ms) ≡ [])
+    × (filter (λ (k : Numbered). not (is_bye k.1)) (enumerate_from n ms) ≡ enumerate_from n ms)
 sorted n [] h = (refl, refl)
 sorted n (m ∷ ms) h =
     let here = h 0 m (omega arith) in
@@ -122,12 +123,12 @@ length-by_key (n ∷ ns) = grind (arith, common_steps, length-by_key ns)
 other_row : (r : ℕ) (n : Numbered) → is_of r (pairing_row (r + 1) n) ≡ false
 other_row r n = grind (arith, common_steps)
 
-pub rounds_in_turn : AreInTurn (λ (r : Round). FitRows r.matches) (λ (r : Round). by_key (numbered_from 1 r.matches)) pairing_row is_of
+pub rounds_in_turn : AreInTurn (λ (r : Round). FitRows r.matches) (λ (r : Round). by_key (enumerate_from 1 r.matches)) pairing_row is_of
     keyed_rows_from
 rounds_in_turn = record {
   none = λ n. refl;
   more = λ n g gs. refl;
-  some = λ g shown. omega (arith, length-by_key (numbered_from 1 g.matches), length-numbered 1 g.matches, shown.some);
+  some = λ g shown. omega (arith, length-by_key (enumerate_from 1 g.matches), length-enumerate_from 1 g.matches, shown.some);
   own = λ n x. (Decides-int_eq (pos n) (pos n)).1 refl;
   other = other_row;
 }

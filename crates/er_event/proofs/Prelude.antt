@@ -18,6 +18,7 @@ pub use Rattle.std.proofs.lemmas.Option.{none-some, same_Some, slice_get_read, g
 pub use Rattle.std.proofs.lemmas.Option.{gets}
 pub use Rattle.std.proofs.lemmas.Slice.Eq.{bytes_eq-Decides}
 pub use Rattle.std.specs.Bool.{Decides}
+pub use Rattle.std.specs.List.{enumerate_from}
 pub use Rattle.std.specs.List.{range_with_len, slice_get, AllByRecursion, list_all, list_any}
 pub use Rattle.std.specs.Str.{IsUtf8, bytes_eq}
 pub use Rattle.er_event.specs.Bracket.{open_match, FollowOn, is_over, IsDecided, SameSlots, next_stage, slot_at, last_match, slot_in}
@@ -29,9 +30,8 @@ pub use Rattle.er_event.specs.Match.{is_known}
 pub use Rattle.er_event.specs.Name.{is_lawful_name}
 pub use Rattle.er_event.specs.Pairings.{FitRows, AreTables, FitsRow, table_rows, is_of}
 pub use Rattle.er_event.specs.Parts.{IsEventRow, IsFirstFault, IsOf}
-pub use Rattle.er_event.specs.Recounted.{recounted_matches, recounted_matches_in}
 pub use Rattle.er_event.specs.Results.{RoundResult, results_by, results_in, rounds_missed_of}
-pub use Rattle.er_event.specs.Round.{IsAbsent, is_complete, seats, is_bye, numbered_from, match_in, matches_of, match_at, is_same_pairing}
+pub use Rattle.er_event.specs.Round.{IsAbsent, is_complete, seats, is_bye, match_in, matches_of, match_at, is_same_pairing}
 pub use Rattle.er_event.specs.Rows.{bracket_rows_from, keyed_rows_from, player_row, keyed_round_rows, pairing_row, bracket_row, phase_code}
 pub use Rattle.er_event.specs.Rows.{tally_row}
 pub use Rattle.er_event.specs.Score.{is_playoff_score, is_swiss_score, bye_score}

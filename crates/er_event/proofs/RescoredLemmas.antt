@@ -1,5 +1,5 @@
 -- The rounds of an event in which a match gets a score are those of the event after it.
-use Rattle.er_event.proofs.Prelude.{open_match, Fits, score_table, match_with_score, scored_slot, with_score, EventValue, numbered_from}
+use Rattle.er_event.proofs.Prelude.{open_match, Fits, score_table, match_with_score, scored_slot, with_score, EventValue, enumerate_from}
 use Rattle.er_event.proofs.Prelude.{SetScore}
 use Rattle.er_event.proofs.Prelude.{Match, Round, Games, IsSeatedOnce, rounds_with_score, All, List, Some, [], ap, arith, get_or, length}
 use Rattle.er_event.proofs.Prelude.{map, sym}
@@ -21,8 +21,8 @@ module _ (e : EventValue) (k t : ℕ) (s : Games) (fits : Fits e (SetScore k t s
 
   -- the round's matches are written alike
   as-written : (ms : List Match) → slice_get ms (t - 1) ≡ Some fits.named.0
-      → map (score_table t s) (numbered_from 1 ms) ≡ set ms (t - 1) (match_with_score s fits.named.0)
-      → scored_slot ms t s ≡ map (score_table t s) (numbered_from 1 ms)
+      → map (score_table t s) (enumerate_from 1 ms) ≡ set ms (t - 1) (match_with_score s fits.named.0)
+      → scored_slot ms t s ≡ map (score_table t s) (enumerate_from 1 ms)
   as-written ms there written =
       ap (λ (m : Match). set ms (t - 1) (match_with_score s m)) (get_or_from_slice_get ms (t - 1) fits.named.0 (open_match 0 0) there)
       ∙ sym written

@@ -1,10 +1,12 @@
 -- Rows, of whichever table, that show matches one after the other, and groups of them in turn.
-use Rattle.er_event.proofs.Prelude.{numbered_from, Match, All, Bool, List, [], ap, ap₂, arith, drop, false, get_or, length}
+use Rattle.er_event.proofs.Prelude.{enumerate_from, Match, All, Bool, List, [], ap, ap₂, arith, drop, false, get_or, length}
 use Rattle.er_event.proofs.Prelude.{length-append, map, refl, subst, suc, sym, take, true, zero, ℕ, ℤ, ◌&&◌, ◌++◌, ◌+◌, ◌-◌, ◌<◌, ◌∙◌, ◌∷◌}
 use Rattle.er_event.proofs.Prelude.{◌≡◌, ◌≤◌, length-map, Decides-int_eq, common_steps, All-drop, drop_all, drop_more, length-drop}
 use Rattle.er_event.proofs.Prelude.{map-append, take_all, take_more, take_rest, Decides, AllByRecursion}
 use Rattle.std.proofs.{lemmas.List.Elements.All-head, Math.Seq.{drop-append_seam, drop-drop, take-add, take-append_seam}}
 use Rattle.std.proofs.lemmas.Bool.Decides.{Decides-and}
+use Rattle.std.proofs.lemmas.List.{get_or-map}
+use Rattle.std.proofs.lemmas.List.FromFn.{length-enumerate_from, get_or-enumerate_from}
 use Rattle.std.proofs.{Common.{Option, Result, Some, nat_abs, of_z, pos, to_z, ◌^◌}, lemmas.{Int.to_z_pos, Result.Ok-from_Ok_iff}}
 use Rattle.std.specs.{Int.{FitsUnsignedBits, w64}, List.prefix_len, Ordering.int_eq, Result.{OkIff, result_ok}}
 
@@ -39,43 +41,38 @@ module _ {E : Type 0} (n : ℕ) (z : ℤ) (r : Result ℕ E) (o : Option ℕ) (i
 
 -- ---- the rows of matches one after the other
 
-pub length-numbered : (n : ℕ) (ms : List Match) → length (numbered_from n ms) ≡ length ms
-length-numbered n [] = refl
-length-numbered n (m ∷ ms) = ap suc (length-numbered (n + 1) ms)
-
-pub numbered-push : (n : ℕ) (ms : List Match) (m : Match) → numbered_from n (ms ++ m ∷ []) ≡ numbered_from n ms ++ (n + length ms, m) ∷ []
+pub numbered-push : (n : ℕ) (ms : List Match) (m : Match) → enumerate_from n (ms ++ m ∷ []) ≡ enumerate_from n ms ++ (n + length ms, m) ∷ []
 numbered-push n [] m = let e : n ≡ n + 0 = omega arith in ap (λ k. (k, m) ∷ []) e
 numbered-push n (k ∷ ms) m = grind (arith, common_steps, numbered-push (n + 1) ms m)
 
 module _ {R : Type 0} (row_of : ℕ × Match → R) (d : R) where
   shown-from : (n i : ℕ) (ms : List Match) (e : Match) → i < length ms
-      → get_or (map row_of (numbered_from n ms)) i d ≡ row_of (n + i, get_or ms i e)
-  shown-from n i [] e below = absurd (omega arith)
-  shown-from n zero (m ∷ ms) e below = let at : n ≡ n + 0 = omega arith in ap (λ k. row_of (k, m)) at
-  shown-from n (suc i) (m ∷ ms) e below =
-      let at : n + 1 + i ≡ n + suc i = omega arith in shown-from (n + 1) i ms e (omega arith) ∙ ap (λ k. row_of (k, get_or ms i e)) at
+      → get_or (map row_of (enumerate_from n ms)) i d ≡ row_of (n + i, get_or ms i e)
+  shown-from n i ms e below =
+      get_or-map row_of (enumerate_from n ms) i (0, e) d (omega (arith, length-enumerate_from n ms, below))
+      ∙ ap row_of (get_or-enumerate_from n ms i (0, e) below)
 
   module _ (rows : List R) (i : ℕ) (below : i < length rows) where
-    pub rows_more : (items : List Match) (m : Match) → length items ≡ i → take i rows ≡ map row_of (numbered_from 1 items)
-        → get_or rows i d ≡ row_of (i + 1, m) → take (i + 1) rows ≡ map row_of (numbered_from 1 (items ++ m ∷ []))
+    pub rows_more : (items : List Match) (m : Match) → length items ≡ i → take i rows ≡ map row_of (enumerate_from 1 items)
+        → get_or rows i d ≡ row_of (i + 1, m) → take (i + 1) rows ≡ map row_of (enumerate_from 1 (items ++ m ∷ []))
     rows_more items m count before here =
         let at : i + 1 ≡ 1 + length items = omega arith in
         take_more rows i d below
         ∙ (ap₂ (λ (xs : List R) (x : R). xs ++ x ∷ []) before (here ∙ ap (λ k. row_of (k, m)) at)
-        ∙ (sym (map-append row_of (numbered_from 1 items) ((1 + length items, m) ∷ [])) ∙ ap (map row_of) (sym (numbered-push 1 items m))))
+        ∙ (sym (map-append row_of (enumerate_from 1 items) ((1 + length items, m) ∷ [])) ∙ ap (map row_of) (sym (numbered-push 1 items m))))
 
     -- the match that stands here
-    pub here_shown : (ms : List Match) (e : Match) → rows ≡ map row_of (numbered_from 1 ms)
+    pub here_shown : (ms : List Match) (e : Match) → rows ≡ map row_of (enumerate_from 1 ms)
         → (i < length ms) × (get_or rows i d ≡ row_of (i + 1, get_or ms i e))
     here_shown ms e are =
-        let count = ap length are ∙ (length-map (numbered_from 1 ms) row_of ∙ length-numbered 1 ms) in
+        let count = ap length are ∙ (length-map (enumerate_from 1 ms) row_of ∙ length-enumerate_from 1 ms) in
         let at : 1 + i ≡ i + 1 = omega arith in
         let within : i < length ms = omega arith in
         (within, ap (λ (rs : List R). get_or rs i d) are ∙ (shown-from 1 i ms e within ∙ ap (λ k. row_of (k, get_or ms i e)) at))
 
-  pub all_shown : (rows : List R) (i : ℕ) (ms : List Match) → length rows ≤ i → rows ≡ map row_of (numbered_from 1 ms) → take i ms ≡ ms
+  pub all_shown : (rows : List R) (i : ℕ) (ms : List Match) → length rows ≤ i → rows ≡ map row_of (enumerate_from 1 ms) → take i ms ≡ ms
   all_shown rows i ms short are =
-      let count = ap length are ∙ (length-map (numbered_from 1 ms) row_of ∙ length-numbered 1 ms) in take_all i ms (omega arith)
+      let count = ap length are ∙ (length-map (enumerate_from 1 ms) row_of ∙ length-enumerate_from 1 ms) in take_all i ms (omega arith)
 
 -- ---- groups of rows in turn
 

@@ -1,7 +1,7 @@
 -- An event with one score set anew is sound exactly where the score is lawful.
 use Rattle.er_event.proofs.Prelude.{Fits, score_table, match_with_score, with_score, EventValue, is_bye, is_complete, match_at, match_in}
 use Rattle.er_event.proofs.Prelude.{matches_of}
-use Rattle.er_event.proofs.Prelude.{numbered_from, seats, bye_score, is_swiss_score, AreRounds, IsRound, IsSoundButForSeeds, numbers}
+use Rattle.er_event.proofs.Prelude.{enumerate_from, seats, bye_score, is_swiss_score, AreRounds, IsRound, IsSoundButForSeeds, numbers}
 use Rattle.er_event.proofs.Prelude.{HasMissed, IsAbsent, Player, SetScore, Match, Round, Games, All, AllPairs, Bor, Contains, IfSome}
 use Rattle.er_event.proofs.Prelude.{IsFalse, IsTrue, List, None}
 use Rattle.er_event.proofs.Prelude.{Option, Some, ap, arith, false, flat_map, get_or, length, option_map, subst, sym, take, true}
@@ -135,7 +135,7 @@ module _ (e : EventValue) (k t : ℕ) (s : Games) (m : Match) (is : match_at e k
   With ks = record e { stored = set e.stored (k - 1) (record { matches = ks }) }
 
   pub scored-is : with_score e k t s ≡ With (set ms (t - 1) (match_with_score s m))
-  scored-is = grind (arith, common_steps, numbered_from, round-is, score-place, score_table)
+  scored-is = grind (arith, common_steps, enumerate_from, round-is, score-place, score_table)
 
   abbrev d : Round
   d = record { matches = set ms (t - 1) (match_with_score s m) }

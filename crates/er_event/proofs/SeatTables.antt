@@ -5,7 +5,7 @@ use Rattle.er_event.proofs.Prelude.{◌∷◌, ◌++◌, ◌≡◌, ◌≢◌, a
 use Rattle.er_event.proofs.Prelude.{none-some, take_more, find, not, is_some, true≢false}
 use Rattle.std.proofs.lemmas.{Bool.{cases_Bool, cases_eq}, List.Folds.find-append}
 use Rattle.std.specs.Option.{option_or}
-use Rattle.er_event.specs.{Match.shares_seat, Recounted.sits}
+use Rattle.er_event.specs.Match.{shares_seat}
 use Rattle.er_event.specs.inside.Seats.{sits_at, seat_of, may_sit, AreSeats}
 use Rattle.er_event.proofs.SeatLemmas.{AreApart, sit-apart}
 
@@ -93,13 +93,6 @@ module _ (ms : List Match) (m : Match) where
       let none = shares-free m ms free in
       let differ : (m.a == m.b) ≡ false = grind (arith, nat_tests) in
       rw (differ, none.0, none.1) refl
-
-pub some-sits : (number : ℕ) (ms : List Match) → is_some (seat_of ms number) ≡ sits ms number
-some-sits number [] = refl
-some-sits number (m ∷ ms) = elim (cases_Bool (sits_at number m)) [
-  | inl here ↦ rw here refl
-  | inr free ↦ rw free (some-sits number ms)
-]
 
 -- ---- the match that a player sits at is the only one
 

@@ -1,7 +1,8 @@
 -- Rows of a bracket, and the matches that they show.
-use Rattle.er_event.proofs.Prelude.{numbered_from, bracket_row, bracket_rows_from, Match, BracketRow, FitStageRows, List, [], arith}
+use Rattle.er_event.proofs.Prelude.{enumerate_from, bracket_row, bracket_rows_from, Match, BracketRow, FitStageRows, List, [], arith}
 use Rattle.er_event.proofs.Prelude.{false, pos, refl, ℕ, ℤ, ◌+◌, ◌∷◌, ◌≡◌, Decides-int_eq, common_steps, Decides}
-use Rattle.er_event.proofs.RowLemmas.{AreInTurn, agree, agree-Decides, length-numbered}
+use Rattle.std.proofs.lemmas.List.FromFn.{length-enumerate_from}
+use Rattle.er_event.proofs.RowLemmas.{AreInTurn, agree, agree-Decides}
 use Rattle.er_event.specs.inside.Stages.{is_of_stage}
 
 abbrev columns : BracketRow → BracketRow → List (ℤ × ℤ)
@@ -19,11 +20,11 @@ nothing = record { stage = pos 0; slot = pos 0; a = pos 0; b = pos 0; done = pos
 other_row : (r : ℕ) (n : ℕ × Match) → is_of_stage r (bracket_row (r + 1) n) ≡ false
 other_row r n = grind (arith, common_steps)
 
-pub stages_in_turn : AreInTurn FitStageRows (numbered_from 1) bracket_row is_of_stage bracket_rows_from
+pub stages_in_turn : AreInTurn FitStageRows (enumerate_from 1) bracket_row is_of_stage bracket_rows_from
 stages_in_turn = record {
   none = λ n. refl;
   more = λ n g gs. refl;
-  some = λ g shown. omega (arith, length-numbered 1 g, shown.some);
+  some = λ g shown. omega (arith, length-enumerate_from 1 g, shown.some);
   own = λ n x. (Decides-int_eq (pos n) (pos n)).1 refl;
   other = other_row;
 }

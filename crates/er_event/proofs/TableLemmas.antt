@@ -1,5 +1,5 @@
 -- The match of a table stands at the table's place, or is the bye at table 0.
-use Rattle.er_event.proofs.Prelude.{score_table, match_with_score, is_bye, match_in, numbered_from, Match, Games, Bool, List, None, Option}
+use Rattle.er_event.proofs.Prelude.{score_table, match_with_score, is_bye, match_in, enumerate_from, Match, Games, Bool, List, None, Option}
 use Rattle.er_event.proofs.Prelude.{Some, []}
 use Rattle.er_event.proofs.Prelude.{ap, arith, cond, false, find, get_or, length, map, not, option_map, refl, suc, sym, true, true≢false}
 use Rattle.er_event.proofs.Prelude.{zero, ℕ, ◌+◌, ◌-◌, ◌<◌, ◌==◌, ◌∙◌, ◌∷◌, ◌≡◌, ◌≢◌, ◌≤◌, set, common_steps, none-some, slice_get_past}
@@ -12,7 +12,7 @@ seated None = None
 seated (Some m) = cond (is_bye m) None (Some m)
 
 abbrev found_in : ℕ → ℕ → List Match → Option Match
-found_in n table ms = option_map (λ (found : ℕ × Match). found.1) (find (is_at table) (numbered_from n ms))
+found_in n table ms = option_map (λ (found : ℕ × Match). found.1) (find (is_at table) (enumerate_from n ms))
 
 -- no table of these has a lower number, other than 0
 none-below : (n t : ℕ) (ms : List Match) → 1 ≤ t → t < n → found_in n t ms ≡ None
@@ -20,7 +20,7 @@ none-below n t [] some below = refl
 none-below n t (m ∷ ms) some below = grind (arith, common_steps, none-below (n + 1) t ms some (omega arith))
 
 here : (n : ℕ) (m : Match) (ms : List Match) (b : Bool) → b ≡ is_bye m → 1 ≤ n
-    → option_map (λ (found : ℕ × Match). found.1) (cond (cond b 0 n == n) (Some (n, m)) (find (is_at n) (numbered_from (n + 1) ms)))
+    → option_map (λ (found : ℕ × Match). found.1) (cond (cond b 0 n == n) (Some (n, m)) (find (is_at n) (enumerate_from (n + 1) ms)))
     ≡ cond b None (Some m)
 here n m ms b is low = grind (arith, common_steps, none-below (n + 1) n ms low)
 
@@ -62,19 +62,19 @@ module _ (t : ℕ) (s : Games) where
   changed : (m : Match) (b : Bool) → b ≡ true → cond b (match_with_score s m) m ≡ match_with_score s m
   changed m b is = rw is refl
 
-  untouched : (n : ℕ) (ms : List Match) → 1 ≤ t → t < n → map (score_table t s) (numbered_from n ms) ≡ ms
+  untouched : (n : ℕ) (ms : List Match) → 1 ≤ t → t < n → map (score_table t s) (enumerate_from n ms) ≡ ms
   untouched n [] some below = refl
   untouched n (m ∷ ms) some below = grind (arith, common_steps, untouched (n + 1) ms some (omega arith))
 
 score-from : (s : Games) (n i t : ℕ) (ms : List Match) (m : Match) → 1 ≤ n → t ≡ n + i → slice_get ms i ≡ Some m → is_bye m ≡ false
-    → map (score_table t s) (numbered_from n ms) ≡ set ms i (match_with_score s m)
+    → map (score_table t s) (enumerate_from n ms) ≡ set ms i (match_with_score s m)
 score-from s n i t [] m low at is seat = absurd (none-some m is)
 score-from s n zero t (k ∷ ms) m low at is seat = grind (arith, common_steps, untouched)
 score-from s n (suc i) t (k ∷ ms) m low at is seat =
     grind (arith, common_steps, score-from s (n + 1) i t ms m (omega arith) (omega arith) is seat)
 
 pub score-place : (s : Games) (t : ℕ) (ms : List Match) (m : Match) → match_in ms t ≡ Some m → is_bye m ≡ false
-    → map (score_table t s) (numbered_from 1 ms) ≡ set ms (t - 1) (match_with_score s m)
+    → map (score_table t s) (enumerate_from 1 ms) ≡ set ms (t - 1) (match_with_score s m)
 score-place s t ms m is seat = grind (arith, common_steps, at-place, score-from)
 
 -- ---- the read of a place

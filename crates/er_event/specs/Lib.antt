@@ -4,7 +4,7 @@
 -- say what matches are, and Sound puts all of it together: what is true of every event, but for who is seeded where.
 -- Change says when a change fits, and the event after it; Safe, which changes keep an event sound, but for its seeds.
 -- Results are the rounds that a player has played, and has missed, and Totals count them; Tallies are the totals of all, and
--- who met whom; Recounted is what a change counts anew, and for whom; Slip is one match with its names.
+-- who met whom; Altered is whose totals a change alters; Slip is one match with its names.
 --
 -- Rows are the rows of the five tables that an event has, and Version says which events each version of the tables can
 -- keep. Pairings and Parts read the rows back: the event that they stand for, or the first table at fault. Refusal
@@ -21,7 +21,7 @@
 --   `Event::from_parts`: of rows the one sound event that has them, or the first table at fault, in the order event, player, pairing,
 --     bracket; memory aside.
 --   `totals`, `all_totals`, and both after a change: what a player has from the complete rounds, with no memory. `has_tallies` says exactly
---     whether rows of totals are the event's, `recount_of` whose totals a change may alter: all others keep theirs.
+--     whether rows of totals are the event's; `may_alter_totals`: if not, a change leaves the totals of each player.
 --   `Refusal::number`, `name`, `Display`: the number and the name of each refusal, and how it is shown.
 --
 -- Not promised: that a playoff has the seeds of the standings (`IsSound` of er_rules).
@@ -46,5 +46,5 @@ pub mod Results
 pub mod Totals
 pub mod Slip
 pub mod Tallies
-pub mod Recounted
+pub mod Altered
 pub mod inside

@@ -1,6 +1,6 @@
 //! Laws of events and their changes. A law is called for its contract alone, which is the law.
 
-ghost use Rattle.er_event.specs.Recounted.{OthersKeepTotals};
+ghost use Rattle.er_event.specs.Altered.{OthersKeepTotals};
 ghost use Rattle.er_event.specs.Safe.{ChangesKeepSound};
 ghost use Rattle.er_event.specs.Sound.{IsSoundButForSeeds};
 ghost use Rattle.er_event.specs.Version.{ChangesAreKept};

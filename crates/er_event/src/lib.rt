@@ -37,5 +37,5 @@ pub use rows::{
 };
 pub use scores::{Games, Score};
 pub use slips::SlipRow;
-pub use tallies::{Meeting, Recount, Tally};
+pub use tallies::{Meeting, Tally};
 pub use totals::{AllTotals, Totals};

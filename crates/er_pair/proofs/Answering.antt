@@ -4,16 +4,17 @@ use Rattle.std.proofs.{Common.{All, AllPairs, Some, None, ap, ◌∙◌, arith},
 use Rattle.std.proofs.{lemmas.List.Elements.All-from_get_or, lemmas.List.FromFn.{length-range_with_len, get_or-range_with_len}}
 use Rattle.std.proofs.lemmas.List.Sorted.{All-permutation}
 use Rattle.std.specs.List.{range_with_len}
-use Rattle.er_pair.specs.{declared.rows.Cursor.Cursor, declared.rows.Row.Row, declared.search.Outcome.TheVariants.{Paired, DeadEnd}}
+use Rattle.er_pair.specs.{declared.places.Cursor.Cursor, declared.places.Places.Places}
+use Rattle.er_pair.specs.declared.search.Outcome.TheVariants.{Paired, DeadEnd}
 use Rattle.er_pair.specs.{declared.pairings.TheConstants.MAX_STEPS, Pairing.{Pair, positions, all_positions, IsLegal, IsEarliest}}
-use Rattle.er_pair.specs.{Rows.{has_place, ahead_of, row_at}, Steps.{NeedsMore, met_at}, inside.Search.{SearchAnswers, search_of}}
+use Rattle.er_pair.specs.{inside.Places.{has_place, ahead_of, row_at}, Steps.{NeedsMore, met_at}, inside.Search.{SearchAnswers, search_of}}
 use Rattle.er_pair.specs.inside.Search.{free_ahead, answer_ahead}
 use Rattle.er_pair.proofs.{Bounds.{search_of-short, search_of-fresh}, Entries.{search_of-agree, earliest_found, none_found, no_more_needed}}
 use Rattle.er_pair.proofs.Passing.{passing-all}
 
 -- ---- the search of rows by position
 
-module _ (used : Row) (ahead : Cursor) (none : (p : ℕ) → has_place used p ≡ false)
+module _ (used : Places) (ahead : Cursor) (none : (p : ℕ) → has_place used p ≡ false)
     (all : (p : ℕ) → ahead_of used used ahead p ≡ not (has_place used p)) where
   -- before the search each position is free, and ahead
   all_free : (n : ℕ) → free_ahead used ahead n ≡ range_with_len 0 n
@@ -24,7 +25,7 @@ module _ (used : Row) (ahead : Cursor) (none : (p : ℕ) → has_place used p �
   as_long n = ap length (all_free n) ∙ length-range_with_len 0 n
 
   -- and it is a search of the order
-  pub of_order : (met : ℕ → ℕ → Bool) (order : List ℕ) (rows : List Row) → length rows ≡ length order
+  pub of_order : (met : ℕ → ℕ → Bool) (order : List ℕ) (rows : List Places) → length rows ≡ length order
       → ((p q : ℕ) → p < length order → q < length order → has_place (row_at rows p) q ≡ met_at met order p q)
       → answer_ahead rows used ahead ≡ search_of (met_at met order) (all_positions order)
   of_order met order rows size same = grind (arith, common_steps, all_free, search_of-agree)

@@ -1,10 +1,10 @@
--- Bits of words, and the places of rows for which they stand.
+-- Bits of words, and the places for which they stand.
 use Rattle.std.proofs.{lemmas.Grind.common_steps, Common.{◌≡◌, ℕ, ◌*◌, ◌/◌, ◌%◌, ◌^◌, ◌<◌, ◌==◌, ◌||◌, ◌&&◌, not, false, if◌then◌else◌}}
 use Rattle.std.proofs.{Common.{List, [], ◌∷◌, length, get_or, set, arith, w64}, lemmas.Bool.Decides.nat_tests, lemmas.List.get_or_past}
 use Rattle.std.proofs.{lemmas.Nat.or_lt, lemmas.Nat.Bits.{bit_at-lt, bit_at-zero, bit_at_and, bit_at_or, bit_at_not, bit_at_set_same}}
 use Rattle.std.proofs.lemmas.Nat.Bits.{bit_at_set_other, bit_at_clear_same, bit_at_clear_other}
 use Rattle.std.specs.{Prelude.{bit_and, bit_or}, Int.bit_not}
-use Rattle.er_pair.specs.{declared.rows.Row.Row, Rows.{is_set, has_place}}
+use Rattle.er_pair.specs.{declared.places.Places.Places, inside.Places.{is_set, has_place}}
 
 -- ---- bits of a word
 
@@ -44,22 +44,22 @@ neither_set one other bit fits suits small =
     let none = bit_at_not w64 (bit_or one other) bit (or_lt 64 one other fits suits) small in
     grind (arith, nat_tests, bit_at_or one other bit, none, bit_at-lt one bit, bit_at-lt other bit)
 
--- ---- places of a row
+-- ---- places of a set
 
-pub word_of : (row : Row) (index other : ℕ) → other / 64 ≡ index → is_set (get_or row.words index 0) (other % 64) ≡ has_place row other
+pub word_of : (row : Places) (index other : ℕ) → other / 64 ≡ index → is_set (get_or row.words index 0) (other % 64) ≡ has_place row other
 unfolding has_place
 word_of row index other same = grind arith
 
--- the row in which one word was written
-abbrev pub written : Row → ℕ → ℕ → Row
+-- the set in which one word was written
+abbrev pub written : Places → ℕ → ℕ → Places
 written row index word = record { words = set row.words index word }
 
-in_written : (row : Row) (index word other : ℕ) → index < length row.words
+in_written : (row : Places) (index word other : ℕ) → index < length row.words
     → has_place (written row index word) other ≡ (if other / 64 == index then is_set word (other % 64) else has_place row other)
 unfolding has_place
 in_written row index word other within = grind (arith, common_steps)
 
-pub inserted : (row : Row) (place : ℕ) → place / 64 < length row.words → (other : ℕ)
+pub inserted : (row : Places) (place : ℕ) → place / 64 < length row.words → (other : ℕ)
     → has_place (written row (place / 64) (bit_more (get_or row.words (place / 64) 0) (place % 64))) other
     ≡ (other == place || has_place row other)
 inserted row place within other =
@@ -67,12 +67,12 @@ inserted row place within other =
     let new = in_written row (place / 64) (bit_more word (place % 64)) other within in
     grind (arith, nat_tests, new, more_set word (place % 64) (other % 64) (omega arith), word_of row (place / 64) other)
 
-pub removed : (row : Row) (place : ℕ) → place / 64 < length row.words → (other : ℕ)
+pub removed : (row : Places) (place : ℕ) → place / 64 < length row.words → (other : ℕ)
     → has_place (written row (place / 64) (bit_less (get_or row.words (place / 64) 0) (place % 64))) other
     ≡ (not (other == place) && has_place row other)
 removed row place within other = grind (arith, common_steps, in_written, less_set, nat_tests, word_of)
 
--- a row of zeros has no place
+-- a set of zeros has no place
 pub no_place : (place : ℕ) → has_place (record { words = 0 ∷ 0 ∷ 0 ∷ 0 ∷ 0 ∷ 0 ∷ 0 ∷ 0 ∷ 0 ∷ [] }) place ≡ false
 unfolding has_place
 no_place place = grind (arith, common_steps)
@@ -82,7 +82,7 @@ pub no_word : (place : ℕ) → has_place (record { words = [] }) place ≡ fals
 unfolding has_place
 no_word place = grind (arith, bit_at-zero (place % 64), get_or_past {X = ℕ} [] (place / 64) 0)
 
-pub complemented : (row : Row) (words : List ℕ) (place : ℕ) → get_or row.words (place / 64) 0 < 2 ^ 64
+pub complemented : (row : Places) (words : List ℕ) (place : ℕ) → get_or row.words (place / 64) 0 < 2 ^ 64
     → get_or words (place / 64) 0 ≡ bit_not w64 (get_or row.words (place / 64) 0)
     → has_place (record { words = words }) place ≡ not (has_place row place)
 unfolding has_place

@@ -6,7 +6,7 @@ use Rattle.std.specs.List.{range_with_len}
 use Rattle.er_pair.specs.{Pairing.{Pair, IsLegal, IsEarliest, all_positions}, Steps.{met_at, Needs, NeedsMore}, inside.Search.search_of}
 use Rattle.er_pair.proofs.{Picking.{In, Picked-In, Picked-kept, Picked-length, Rises-range, In-range}, Searching.tries-same}
 use Rattle.er_pair.proofs.{Searching.{search_of-none, search_of-cons}, Bounds.search_of-short, Settling.{Outcome, Settled, settled}}
-use Rattle.er_pair.proofs.Settling.{needs_same}
+use Rattle.er_pair.proofs.Needing.{needs_search, needs_are}
 
 -- the entries at a run of places from a on
 map-range : (xs : List ℕ) (passed : ℕ) (f : ℕ → ℕ) → ((k : ℕ) → k < length xs → f (passed + k) ≡ get_or xs k 0)
@@ -54,21 +54,27 @@ module _ (met : ℕ → ℕ → Bool) (order : List ℕ) where
 
   -- where it finds none, there is none
   pub none_found : (search_of (met_at met order) (all_positions order)).0 ≡ None → (pairs : List Pair) → IsLegal met order pairs → ⊥
-  none_found is = subst (Outcome (IsLegal met order)) is search-settled.0
+  none_found is = subst (Outcome (IsLegal met order)) is search-settled
 
   -- so there is one earliest pairing
   pub one_earliest : (one other : List Pair) → IsEarliest met order one → IsEarliest met order other → one ≡ other
-  one_earliest one other earliest also = by_outcome (search_of (met_at met order) (all_positions order)).0 search-settled.0
+  one_earliest one other earliest also = by_outcome (search_of (met_at met order) (all_positions order)).0 search-settled
     where
       by_outcome : (answer : Option (List Pair)) → Outcome (IsLegal met order) answer → one ≡ other
       by_outcome h1 none = grind (arith, common_steps)
 
   -- and the order needs just the steps that it makes
-  needs_steps : (steps : ℕ) → Needs met order (all_positions order) steps → steps ≡ (search_of (met_at met order) (all_positions order)).1
-  needs_steps steps needs = needs_same needs search-settled.1
+  pub needs_steps : (steps : ℕ) → Needs met order (all_positions order) steps
+      → steps ≡ (search_of (met_at met order) (all_positions order)).1
+  needs_steps steps needs = needs_are met order (length (all_positions order)) (all_positions order) steps (omega arith)
+      (Rises-range 0 (length order)) needs
+
+  needs_search_of : Needs met order (all_positions order) (search_of (met_at met order) (all_positions order)).1
+  needs_search_of = needs_search met order (length (all_positions order)) (all_positions order) (omega arith)
+      (Rises-range 0 (length order))
 
   pub more_needed : (budget : ℕ) → budget < (search_of (met_at met order) (all_positions order)).1 → NeedsMore met order budget
-  more_needed budget less = ((search_of (met_at met order) (all_positions order)).1, search-settled.1, less)
+  more_needed budget less = ((search_of (met_at met order) (all_positions order)).1, needs_search_of, less)
 
   pub no_more_needed : (budget : ℕ) → (search_of (met_at met order) (all_positions order)).1 ≤ budget → NeedsMore met order budget → ⊥
   no_more_needed budget within more = omega (arith, needs_steps more.0 more.1, more.2)

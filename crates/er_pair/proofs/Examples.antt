@@ -1,8 +1,10 @@
 -- Examples of the definitions, which compute, and the limits as the rules have them.
-use Rattle.std.specs.Prelude.{◌≡◌, ℕ, ◌==◌, ◌&&◌, ◌||◌, Bool, false, [], ◌∷◌, Some, None, refl}
+use Rattle.std.specs.Prelude.{◌≡◌, ℕ, ◌==◌, ◌&&◌, ◌||◌, Bool, false, List, [], ◌∷◌, Some, None, refl}
 use Rattle.er_event.specs.{declared.matches.Match.Match, Bracket.open_match}
-use Rattle.er_pair.specs.{declared.meetings.TheConstants.NUMBERS, declared.pairings.TheConstants.MAX_STEPS, Pairing.round_of}
+use Rattle.er_pair.specs.{declared.meetings.TheConstants.NUMBERS, declared.pairings.TheConstants.MAX_STEPS}
+use Rattle.er_pair.specs.{Pairing.{all_positions, round_of}, Steps.Needs}
 use Rattle.er_pair.specs.inside.Search.{search_of, search_within, tries, after_step}
+use Rattle.er_pair.proofs.Entries.{needs_steps}
 
 -- ---- each limit as the rules have it, so that the code's constant can't move from it
 
@@ -37,6 +39,29 @@ nobody_has_met = refl
 pub no_pairing : search_of (met_only 1 2) (1 ∷ 2 ∷ []) ≡ (None, 0)
 unfolding search_of search_within tries after_step
 no_pairing = refl
+
+-- ---- the steps that an order needs, by the definition
+
+abbrev NeedsJust : (ℕ → ℕ → Bool) → List ℕ → ℕ → Type 0
+NeedsJust met order count = (steps : ℕ) → Needs met order (all_positions order) steps → steps ≡ count
+
+-- 1 with 2 and with 3 is tried, and then each time what is left
+pub steps_of_going_back : NeedsJust (met_only 3 4) (1 ∷ 2 ∷ 3 ∷ 4 ∷ []) 3
+unfolding search_of search_within tries after_step
+steps_of_going_back = needs_steps (met_only 3 4) (1 ∷ 2 ∷ 3 ∷ 4 ∷ [])
+
+pub steps_where_nobody_has_met : NeedsJust (λ p q. false) (1 ∷ 2 ∷ 3 ∷ 4 ∷ []) 2
+unfolding search_of search_within tries after_step
+steps_where_nobody_has_met = needs_steps (λ p q. false) (1 ∷ 2 ∷ 3 ∷ 4 ∷ [])
+
+pub steps_of_no_pairing : NeedsJust (met_only 1 2) (1 ∷ 2 ∷ []) 0
+unfolding search_of search_within tries after_step
+steps_of_no_pairing = needs_steps (met_only 1 2) (1 ∷ 2 ∷ [])
+
+-- 4 has met all others: 1 is tried with 2 and with 3, and each time nothing is left to try
+pub steps_of_one_who_has_met_all : NeedsJust (λ p q. p == 4 || q == 4) (1 ∷ 2 ∷ 3 ∷ 4 ∷ []) 2
+unfolding search_of search_within tries after_step
+steps_of_one_who_has_met_all = needs_steps (λ p q. p == 4 || q == 4) (1 ∷ 2 ∷ 3 ∷ 4 ∷ [])
 
 -- ---- the round of a pairing, by positions of the order: tables in turn, and then the bye, which is won 2-0
 

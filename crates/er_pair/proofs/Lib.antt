@@ -3,8 +3,10 @@ mod Counting
 mod Opening
 mod Searching
 mod Settling
+mod Needing
 mod Bounds
 mod Entries
+mod Opponents
 mod Meeting
 mod Bits
 mod Ahead

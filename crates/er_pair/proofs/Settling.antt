@@ -1,9 +1,8 @@
--- What the search answers is the earliest legal pairing of the free positions, or that there is none, in the steps that they need.
+-- What the search answers is the earliest legal pairing of the free positions, or that there is none.
 use Rattle.std.proofs.{lemmas.Grind.common_steps, Common.{◌≡◌, ◌⊎◌, inl, inr, ℕ, zero, suc, ◌<◌, ◌≤◌, Bool, false, List, [], ◌∷◌, ◌++◌}}
 use Rattle.std.proofs.Common.{length, Some, None, Option, MatchOption, refl, sym, ap, ◌∙◌, arith, append_assoc, not-suc-le-zero}
 use Rattle.std.proofs.lemmas.Bool.{true≢false, cond_both}
-use Rattle.er_pair.specs.{Pairing.{Pair, IsLegalOf, IsEarlier}, Steps.{CanPair, met_at, Needs, Tries}, Steps.Needs.{empty, first_with}}
-use Rattle.er_pair.specs.{Steps.Tries.{none_left, has_met, partner, dead_end}, inside.Search.{Answer, after_step, tries, search_of}}
+use Rattle.er_pair.specs.{Pairing.{Pair, IsLegalOf, IsEarlier}, Steps.met_at, inside.Search.{Answer, after_step, tries, search_of}}
 use Rattle.er_pair.proofs.{Picking.{Rises, Picked, Above-In, Picked-In, Picked-Rises, Picked-length}, Picking.Picked.{here, there}}
 use Rattle.er_pair.proofs.{Opening.{Opens, opens, closes, legal_none, none_legal}, Opening.Opens.opened, Searching.search_of-none}
 use Rattle.er_pair.proofs.Searching.{search_of-cons}
@@ -53,19 +52,23 @@ earlier_off first a b one other e = grind (arith, common_steps)
 -- ---- of the pairings of a first position
 
 module _ (met : ℕ → ℕ → Bool) (order : List ℕ) where
+  -- the free positions can be paired
+  abbrev CanPair : List ℕ → Type 0
+  CanPair free = (pairs : List Pair) × IsLegalOf met order free pairs
+
   -- a candidate that goes over to those passed
   over : (first c : ℕ) (passed left : List ℕ) {pairs : List Pair}
       → Opens met order first (passed ++ c ∷ []) left pairs → Opens met order first passed (c ∷ left) pairs
   over first c passed left (opened {others = o} p new legal) = opened (there p) new (rw (← append_assoc passed (c ∷ []) o) legal)
 
   back : (first c : ℕ) (passed left : List ℕ) {pairs : List Pair}
-      → (met_at met order first c ≡ false → CanPair met order (passed ++ left) → ⊥)
+      → (met_at met order first c ≡ false → CanPair (passed ++ left) → ⊥)
       → Opens met order first passed (c ∷ left) pairs → Opens met order first (passed ++ c ∷ []) left pairs
   back first c passed left none (opened {more = more} here new legal) = absurd (none new (more, legal))
   back first c passed left none (opened (there {others = o} p) new legal) = opened p new (rw (append_assoc passed (c ∷ []) o) legal)
 
   Outcome-over : (first c : ℕ) (passed left : List ℕ) (answer : Option (List Pair))
-      → (met_at met order first c ≡ false → CanPair met order (passed ++ left) → ⊥)
+      → (met_at met order first c ≡ false → CanPair (passed ++ left) → ⊥)
       → Outcome (Opens met order first (passed ++ c ∷ []) left) answer → Outcome (Opens met order first passed (c ∷ left)) answer
   Outcome-over first c passed left answer none =
       Outcome-same (Opens met order first (passed ++ c ∷ []) left) (Opens met order first passed (c ∷ left))
@@ -102,20 +105,20 @@ module _ (met : ℕ → ℕ → Bool) (order : List ℕ) where
   -- ---- the search
 
   abbrev pub Settled : List ℕ → Answer → Type 0
-  Settled free answer = Outcome (IsLegalOf met order free) answer.0 × Needs met order free answer.1
+  Settled free answer = Outcome (IsLegalOf met order free) answer.0
 
   abbrev Tried : ℕ → List ℕ → List ℕ → Answer → Type 0
-  Tried first passed left answer = Outcome (Opens met order first passed left) answer.0 × Tries met order first passed left answer.1
+  Tried first passed left answer = Outcome (Opens met order first passed left) answer.0
 
   Tried-new : (first c : ℕ) (passed left : List ℕ) (own : Option (List Pair)) (inner : ℕ) (later : Answer) → Rises (c ∷ left)
       → met_at met order first c ≡ false → Settled (passed ++ left) (own, inner) → Tried first (passed ++ c ∷ []) left later
       → Tried first passed (c ∷ left) (after_step (first, c) own inner later)
   unfolding after_step
   Tried-new first c passed left None inner later rises new dead h =
-      let none : CanPair met order (passed ++ left) → ⊥ = λ can. dead.0 can.0 can.1 in
-      (Outcome-over first c passed left later.0 (λ _. none) h.0, dead_end new none dead.1 h.1)
+      let none : CanPair (passed ++ left) → ⊥ = λ can. dead can.0 can.1 in
+      Outcome-over first c passed left later.0 (λ _. none) h
   Tried-new first c passed left (Some more) inner later rises new found h =
-      (first_here first c passed left more rises found.0 new, partner new (more, found.0.is) found.1)
+      first_here first c passed left more rises found new
 
   none_open : (first : ℕ) (passed : List ℕ) {pairs : List Pair} → Opens met order first passed [] pairs → ⊥
   none_open first passed (opened p new legal) = elim p [ ]
@@ -125,14 +128,14 @@ module _ (met : ℕ → ℕ → Bool) (order : List ℕ) where
       → ((c : ℕ) (o : List ℕ) → Picked left c o → Settled (passed ++ o) (search_of (met_at met order) (passed ++ o)))
       → Tried first passed left (tries (met_at met order) (search_of (met_at met order)) first passed left)
   unfolding tries
-  tried first passed [] rises settled = (λ pairs. none_open first passed, none_left)
+  tried first passed [] rises settled = λ pairs. none_open first passed
   tried first passed (c ∷ left) rises settled =
       let t = met_at met order in
       let own = search_of t (passed ++ left) in
       let later = tries t (search_of t) first (passed ++ c ∷ []) left in
       let over = tried first (passed ++ c ∷ []) left rises.1 (λ d o p. rw (append_assoc passed (c ∷ []) o) (settled d (c ∷ o) (there p))) in
       cond_both (t first c) later (after_step (first, c) own.0 own.1 later) (Tried first passed (c ∷ left))
-      (λ is. (Outcome-over first c passed left later.0 (λ new. absurd (true≢false (sym is ∙ new))) over.0, has_met is over.1))
+      (λ is. Outcome-over first c passed left later.0 (λ new. absurd (true≢false (sym is ∙ new))) over)
       (λ new. Tried-new first c passed left own.0 own.1 later rises new (settled c left here) over)
 
   nothing_else : IsFirst (IsLegalOf met order []) []
@@ -144,32 +147,9 @@ module _ (met : ℕ → ℕ → Bool) (order : List ℕ) where
 
   -- each search of a list that rises
   pub settled : (bound : ℕ) (free : List ℕ) → length free ≤ bound → Rises free → Settled free (search_of (met_at met order) free)
-  settled bound [] short rises = rw (search_of-none (met_at met order)) (nothing_else, empty)
+  settled bound [] short rises = rw (search_of-none (met_at met order)) nothing_else
   settled zero (first ∷ rest) short rises = absurd (not-suc-le-zero short)
   settled (suc bound) (first ∷ rest) short rises =
       let all = tried first [] rest rises.1 (λ c o p. settled bound o (omega (arith, Picked-length p)) (Picked-Rises p rises.1)) in
-      rw (search_of-cons (met_at met order) first rest) (
-        Outcome-same (Opens met order first [] rest) (IsLegalOf met order (first ∷ rest))
-            (λ pairs. closes met order first rest rises) (opens met order first rest rises) _ all.0,
-        first_with all.1,
-      )
-
--- ---- the steps that are needed are just so many
-
-mutual
-  pub needs_same : {met : ℕ → ℕ → Bool} {order free : List ℕ} {a b : ℕ} → Needs met order free a → Needs met order free b → a ≡ b
-  needs_same empty empty = refl
-  needs_same (first_with t) (first_with u) = tries_same t u
-
-  tries_same : {met : ℕ → ℕ → Bool} {order : List ℕ} {first : ℕ} {passed left : List ℕ} {a b : ℕ}
-      → Tries met order first passed left a → Tries met order first passed left b → a ≡ b
-  tries_same none_left none_left = refl
-  tries_same (has_met is t) (has_met so u) = tries_same t u
-  tries_same (has_met is t) (partner new can n) = absurd (cc (is, new))
-  tries_same (has_met is t) (dead_end new dead n u) = absurd (cc (is, new))
-  tries_same (partner new can n) (has_met is u) = absurd (cc (is, new))
-  tries_same (partner new can n) (partner so too m) = ap suc (needs_same n m)
-  tries_same (partner new can n) (dead_end so dead m u) = absurd (dead can)
-  tries_same (dead_end new dead n t) (has_met is u) = absurd (cc (is, new))
-  tries_same (dead_end new dead n t) (partner so can m) = absurd (dead can)
-  tries_same (dead_end new dead n t) (dead_end so gone m u) = omega (arith, needs_same n m, tries_same t u)
+      rw (search_of-cons (met_at met order) first rest) (Outcome-same (Opens met order first [] rest) (IsLegalOf met order (first ∷ rest))
+      (λ pairs. closes met order first rest rises) (opens met order first rest rises) _ all)

@@ -5,9 +5,10 @@ use Rattle.std.proofs.{Common.{drop, append-nil, length-append, nat_lt}, lemmas.
 use Rattle.std.proofs.lemmas.List.{nil_from_length}
 use Rattle.std.specs.Slice.Scan.{HoldsNowhere}
 use borrow.Rule.Slice.PartMut.{put_mid}
-use Rattle.er_pair.specs.{declared.dead_ends.KnownDeadEnd.KnownDeadEnd, declared.rows.Cursor.Cursor, declared.rows.Row.Row}
+use Rattle.er_pair.specs.{declared.dead_ends.KnownDeadEnd.KnownDeadEnd, declared.places.Cursor.Cursor, declared.places.Places.Places}
 use Rattle.er_pair.specs.{declared.search.Outcome.Outcome, declared.search.Outcome.TheVariants.{Paired, DeadEnd, OutOfSteps}}
-use Rattle.er_pair.specs.{declared.rows.TheConstants.WORDS, Pairing.Pair, Rows.{has_place, ahead_of, is_later, row_at, IsNoneAhead, IsNext}}
+use Rattle.er_pair.specs.{declared.places.TheConstants.WORDS, Pairing.Pair}
+use Rattle.er_pair.specs.inside.Places.{has_place, ahead_of, is_later, row_at, IsNoneAhead, IsNext}
 use Rattle.er_pair.specs.inside.Search.{Answer, SearchAnswers, after_step, tries, search_of, met_in, free_ahead, answer_ahead}
 use Rattle.er_pair.specs.inside.Search.{AreDeadEnds}
 use Rattle.er_pair.proofs.{Searching.{search_of-none, search_of-cons}, Ahead.{ahead-same, later_free}, Passing.{passing, passing-none}}
@@ -15,7 +16,7 @@ use Rattle.er_pair.proofs.Passing.{passing-same, passing-append}
 
 -- ---- the candidates of the first, of the positions that pass
 
-module _ (rows : List Row) (free : ℕ → Bool) (first : ℕ) where
+module _ (rows : List Places) (free : ℕ → Bool) (first : ℕ) where
   -- a position that passes, and that the first hasn't met
   abbrev pub is_new : ℕ → Bool
   is_new p = free p && not (met_in rows first p)
@@ -93,16 +94,16 @@ module _ (rows : List Row) (free : ℕ → Bool) (first : ℕ) where
 
 -- ---- before the first candidate
 
-pub pairs_none : (rows : List Row) (list : List ℕ) (steps : ℕ) (pairs : List Pair) → length list ≡ 2 * length pairs → list ≡ []
+pub pairs_none : (rows : List Places) (list : List ℕ) (steps : ℕ) (pairs : List Pair) → length list ≡ 2 * length pairs → list ≡ []
     → SearchAnswers (search_of (met_in rows) list) steps pairs steps Paired
 pairs_none rows list steps h1 size none = grind (arith, common_steps, search_of-none)
 
-pub free_none : (used : Row) (cursor : Cursor) (end : ℕ) → IsNoneAhead used used cursor end → free_ahead used cursor end ≡ []
+pub free_none : (used : Places) (cursor : Cursor) (end : ℕ) → IsNoneAhead used used cursor end → free_ahead used cursor end ≡ []
 unfolding free_ahead
 free_none used cursor end none = passing-none (ahead_of used used cursor) 0 end (λ p low below. none p (omega arith) (omega arith))
 
 -- those ahead are the first, and those ahead of the cursor behind it
-pub free_first : (used : Row) (cursor behind : Cursor) (first end : ℕ) → IsNext used used cursor behind end first
+pub free_first : (used : Places) (cursor behind : Cursor) (first end : ℕ) → IsNext used used cursor behind end first
     → free_ahead used cursor end ≡ first ∷ passing (ahead_of used used behind) 0 end
 unfolding free_ahead
 free_first used cursor behind first end next =
@@ -119,13 +120,13 @@ free_first used cursor behind first end next =
     rw (passing-append test 0 first (suc k) first end (omega arith) (omega arith)) (rw before (rw hit (cc)))
 
 -- so a walk has fewer places ahead at each step
-pub fewer_ahead : (used : Row) (cursor behind : Cursor) (first end : ℕ) → IsNext used used cursor behind end first
+pub fewer_ahead : (used : Places) (cursor behind : Cursor) (first end : ℕ) → IsNext used used cursor behind end first
     → length (free_ahead used behind end) < length (free_ahead used cursor end)
 unfolding free_ahead
 fewer_ahead used cursor behind first end next = omega (arith, ap length (free_first used cursor behind first end next))
 
 -- and so where there are two
-pub two_ahead : (used : Row) (cursor behind last : Cursor) (first second end : ℕ) → length (free_ahead used cursor end) ≡ 2
+pub two_ahead : (used : Places) (cursor behind last : Cursor) (first second end : ℕ) → length (free_ahead used cursor end) ≡ 2
     → IsNext used used cursor behind end first → IsNext used used behind last end second
     → free_ahead used cursor end ≡ first ∷ second ∷ []
 unfolding free_ahead
@@ -136,11 +137,11 @@ two_ahead used cursor behind last first second end size next then =
     let none = nil_from_length (passing (ahead_of used used last) 0 end) (omega (arith, ap length one, ap length two, size)) in
     cc
 
-pub none_of_two : (used : Row) (cursor : Cursor) (end : ℕ) → length (free_ahead used cursor end) ≡ 2
+pub none_of_two : (used : Places) (cursor : Cursor) (end : ℕ) → length (free_ahead used cursor end) ≡ 2
     → IsNoneAhead used used cursor end → ⊥
 none_of_two used cursor end size none = omega (arith, size, ap length (free_none used cursor end none))
 
-pub one_of_two : (used : Row) (cursor behind : Cursor) (first end : ℕ) → length (free_ahead used cursor end) ≡ 2
+pub one_of_two : (used : Places) (cursor behind : Cursor) (first end : ℕ) → length (free_ahead used cursor end) ≡ 2
     → IsNext used used cursor behind end first → IsNoneAhead used used behind end → ⊥
 unfolding free_ahead
 one_of_two used cursor behind first end size next none =
@@ -184,7 +185,7 @@ pair_and_more (old ∷ more) found pair size some = grind (arith, common_steps)
 -- ---- where the search is, at one of the candidates
 
 -- what is left to try answers, in the steps that are left, what is asked, and the walk passes what is new from the next candidate on
-pub record IsAt (rows : List Row) (at_first used : Row) (list : List ℕ) (others : Cursor) (first : ℕ) (candidates : Cursor)
+pub record IsAt (rows : List Places) (at_first used : Places) (list : List ℕ) (others : Cursor) (first : ℕ) (candidates : Cursor)
     (steps left : ℕ) : Type 0 where
   pub next : ℕ
   pub within : next ≤ length rows
@@ -195,14 +196,14 @@ pub record IsAt (rows : List Row) (at_first used : Row) (list : List ℕ) (other
       ≡ (not (nat_lt p next) && is_new rows (ahead_of at_first at_first others) first p)
   pub word : candidates.index < WORDS
 
-pub starts : (rows : List Row) (used : Row) (list : List ℕ) (others candidates : Cursor) (first steps : ℕ)
+pub starts : (rows : List Places) (used : Places) (list : List ℕ) (others candidates : Cursor) (first steps : ℕ)
     → list ≡ first ∷ passing (ahead_of used used others) 0 (length rows)
-    → ((other : Row) (p : ℕ) → ahead_of (row_at rows first) other candidates p
+    → ((other : Places) (p : ℕ) → ahead_of (row_at rows first) other candidates p
     ≡ (ahead_of other other others p && not (has_place (row_at rows first) p)))
     → candidates.index < WORDS → IsAt rows used used list others first candidates steps steps
 starts rows used list others candidates first steps is without word = grind (arith, common_steps, nat_tests, passing, search_of-cons)
 
-module _ (rows : List Row) (at_first used : Row) (list : List ℕ) (others : Cursor) (first : ℕ) (candidates : Cursor) (steps left : ℕ)
+module _ (rows : List Places) (at_first used : Places) (list : List ℕ) (others : Cursor) (first : ℕ) (candidates : Cursor) (steps left : ℕ)
     (h : IsAt rows at_first used list others first candidates steps left) where
   abbrev free : ℕ → Bool
   free = ahead_of at_first at_first others
@@ -248,7 +249,7 @@ module _ (rows : List Row) (at_first used : Row) (list : List ℕ) (others : Cur
     some_pair size is_list all = omega (arith, two_fewer rows free first list c is_list is.0 is_free, all)
 
     -- the search of the others, without the partner
-    module _ (more : Row) (rest : Cursor) (is_rest : (p : ℕ) → ahead_of more more rest p ≡ (ahead_of used used others p && not (p == c)))
+    module _ (more : Places) (rest : Cursor) (is_rest : (p : ℕ) → ahead_of more more rest p ≡ (ahead_of used used others p && not (p == c)))
       where
         rest_is : free_ahead more rest (length rows) ≡ without_one rows free first c
         unfolding free_ahead
@@ -260,7 +261,7 @@ module _ (rows : List Row) (at_first used : Row) (list : List ℕ) (others : Cur
             omega (arith, two_fewer rows free first list c is_list is.0 is_free, ap length rest_is, all)
 
         -- where it is a dead end, the candidate is passed
-        pub goes_on : (back last : Row) (found : List Pair) (left_after : ℕ) (outcome : Outcome) → after.index < WORDS → 0 < left
+        pub goes_on : (back last : Places) (found : List Pair) (left_after : ℕ) (outcome : Outcome) → after.index < WORDS → 0 < left
             → SearchAnswers (answer_ahead rows more rest) (left - 1) found left_after outcome → outcome ≡ DeadEnd
             → ((p : ℕ) → has_place more p ≡ (is_later others.index c p || has_place used p))
             → ((p : ℕ) → has_place back p ≡ has_place more p)
@@ -307,7 +308,7 @@ module _ (rows : List Row) (at_first used : Row) (list : List ℕ) (others : Cur
             (rw step (after_step-found (first, c) own later left left_after found outcome some other inner)))
 
 -- what the search of the others leaves, of pairs of which the first was written
-pub record IsRest (rows : List Row) (more : Row) (rest : Cursor) (left : ℕ) (written : List Pair) (outcome : Outcome) (used : Row)
+pub record IsRest (rows : List Places) (more : Places) (rest : Cursor) (left : ℕ) (written : List Pair) (outcome : Outcome) (used : Places)
     (pairs : List Pair) (steps : ℕ) (kept : List KnownDeadEnd) : Type 0 where
   pub found : List Pair
   pub size : length found ≡ length written - 1
@@ -318,12 +319,12 @@ pub record IsRest (rows : List Row) (more : Row) (rest : Cursor) (left : ℕ) (w
 
 -- ---- the last two
 
-two_met : (rows : List Row) (first second : ℕ) → met_in rows first second ≡ true
+two_met : (rows : List Places) (first second : ℕ) → met_in rows first second ≡ true
     → search_of (met_in rows) (first ∷ second ∷ []) ≡ (None, zero)
 unfolding tries
 two_met rows first second met = rw (search_of-cons (met_in rows) first (second ∷ [])) (rw met)
 
-two_new : (rows : List Row) (first second : ℕ) → met_in rows first second ≡ false
+two_new : (rows : List Places) (first second : ℕ) → met_in rows first second ≡ false
     → search_of (met_in rows) (first ∷ second ∷ []) ≡ (Some ((first, second) ∷ []), suc zero)
 unfolding tries after_step
 two_new rows first second new = grind (arith, common_steps, search_of-cons, search_of-none)
@@ -332,7 +333,7 @@ only_pair : (pairs : List Pair) (pair : Pair) → length pairs ≡ 1 → set pai
 only_pair [] pair one = absurd (omega arith)
 only_pair (old ∷ more) pair one = rw (nil_from_length more (omega arith))
 
-module _ (rows : List Row) (list : List ℕ) (first second steps : ℕ) (is : list ≡ first ∷ second ∷ []) where
+module _ (rows : List Places) (list : List ℕ) (first second steps : ℕ) (is : list ≡ first ∷ second ∷ []) where
   pub last_met : (found : List Pair) → met_in rows first second ≡ true
       → SearchAnswers (search_of (met_in rows) list) steps found steps DeadEnd
   last_met found met = rw is (rw (two_met rows first second met) (refl, omega arith))

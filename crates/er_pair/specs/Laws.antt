@@ -1,9 +1,10 @@
--- What is true of every order and every legal pairing.
-use Rattle.std.specs.Prelude.{◌≡◌, ◌≢◌, ℕ, ◌<◌, Bool, IsFalse, List, All, AllPairs, IsPermutation}
+-- What is true of every order and every legal pairing, and of the steps that a short order needs.
+use Rattle.std.specs.Prelude.{◌≡◌, ◌≢◌, ℕ, ◌<◌, ◌≤◌, Bool, IsFalse, List, length, All, AllPairs, IsPermutation}
 use Rattle.er_event.specs.Event.{EventValue}
 use Rattle.er_event.specs.Sound.{IsSoundButForSeeds}
 use Rattle.er_pair.specs.Order.{IsOrder}
-use Rattle.er_pair.specs.Pairing.{Pair, first, second, positions, entries, IsLegal, IsEarliest}
+use Rattle.er_pair.specs.Pairing.{Pair, first, second, positions, all_positions, entries, IsLegal, IsEarliest}
+use Rattle.er_pair.specs.Steps.{Needs}
 
 -- under given keys an event has at most one order
 abbrev pub OneOrder : Type 0
@@ -29,3 +30,8 @@ pub record SeatsEach (met : ℕ → ℕ → Bool) (order : List ℕ) (pairs : Li
 abbrev pub LegalSeats : Type 0
 LegalSeats = (met : ℕ → ℕ → Bool) (order : List ℕ) (pairs : List Pair)
     → IsLegal met order pairs → SeatsEach met order pairs
+
+-- an order of up to 14 entries needs at most 325,767 steps, whoever has met
+abbrev pub ShortNeeds : Type 0
+ShortNeeds = (met : ℕ → ℕ → Bool) (order : List ℕ) (steps : ℕ)
+    → length order ≤ 14 → Needs met order (all_positions order) steps → steps ≤ 325767

@@ -1,37 +1,30 @@
 -- How many candidates a search for the earliest pairing looks at.
-use Rattle.std.specs.Prelude.{ℕ, zero, suc, ◌+◌, ◌<◌, Bool, IsTrue, IsFalse, List, [], ◌∷◌, ◌++◌, slice_index}
-use Rattle.er_pair.specs.Pairing.{Pair, IsLegalOf, all_positions}
-
--- the free positions of the order can be paired
-abbrev pub CanPair : (ℕ → ℕ → Bool) → List ℕ → List ℕ → Type 0
-CanPair met order free = (pairs : List Pair) × IsLegalOf met order free pairs
+use Rattle.std.specs.Prelude.{ℕ, zero, ◌+◌, ◌<◌, ◌==◌, nat_le, Bool, not, List, [], ◌∷◌, filter, sum_by, Contains, slice_index}
+use Rattle.er_pair.specs.Pairing.{Pair, IsLegalOf, IsEarliestOf, all_positions}
 
 abbrev pub met_at : (ℕ → ℕ → Bool) → List ℕ → ℕ → ℕ → Bool
 met_at met order p q = met (slice_index order p) (slice_index order q)
 
-mutual
-  -- the steps that the free positions need: those over the candidates of the first
-  pub data Needs (met : ℕ → ℕ → Bool) (order : List ℕ) : List ℕ → ℕ → Type 0 where
-    empty : Needs met order [] zero
-    first_with : {first : ℕ} {rest : List ℕ} {steps : ℕ} → Tries met order first [] rest steps → Needs met order (first ∷ rest) steps
+-- the later positions that the first hasn't met
+abbrev pub candidates : (ℕ → ℕ → Bool) → List ℕ → ℕ → List ℕ → List ℕ
+candidates met order first later = filter (λ other. not (met_at met order first other)) later
 
-  -- the first position was tried with the passed ones, and those that are left come next
-  pub data Tries (met : ℕ → ℕ → Bool) (order : List ℕ) : ℕ → List ℕ → List ℕ → ℕ → Type 0 where
-    none_left : {first : ℕ} {passed : List ℕ} → Tries met order first passed [] zero
-    -- one that it has met is no candidate, and no step
-    has_met : {first candidate : ℕ} {passed left : List ℕ} {steps : ℕ}
-        → IsTrue (met_at met order first candidate)
-        → Tries met order first (passed ++ candidate ∷ []) left steps → Tries met order first passed (candidate ∷ left) steps
-    -- a step, and the search stops where the others can be paired
-    partner : {first candidate : ℕ} {passed left : List ℕ} {steps : ℕ}
-        → IsFalse (met_at met order first candidate) → CanPair met order (passed ++ left)
-        → Needs met order (passed ++ left) steps → Tries met order first passed (candidate ∷ left) (suc steps)
-    -- and goes back to the next candidate where they can't
-    dead_end : {first candidate : ℕ} {passed left : List ℕ} {inner steps : ℕ}
-        → IsFalse (met_at met order first candidate) → (CanPair met order (passed ++ left) → ⊥)
-        → Needs met order (passed ++ left) inner
-        → Tries met order first (passed ++ candidate ∷ []) left steps
-        → Tries met order first passed (candidate ∷ left) (suc (inner + steps))
+-- the candidates that are tried: those up to the first one's partner in the earliest legal pairing, and all where none is legal
+pub data AreTried (met : ℕ → ℕ → Bool) (order : List ℕ) (first : ℕ) (later : List ℕ) : List ℕ → Type 0 where
+  up_to_partner : {partner : ℕ} {more : List Pair} → IsEarliestOf met order (first ∷ later) ((first, partner) ∷ more)
+      → AreTried met order first later (filter (λ other. nat_le other partner) (candidates met order first later))
+  all : ((pairs : List Pair) → IsLegalOf met order (first ∷ later) pairs → ⊥)
+      → AreTried met order first later (candidates met order first later)
+
+abbrev pub without : ℕ → List ℕ → List ℕ
+without position positions = filter (λ other. not (other == position)) positions
+
+-- the steps that a list of positions needs: for each candidate that is tried, one, and those of the list without the two
+pub data Needs (met : ℕ → ℕ → Bool) (order : List ℕ) : List ℕ → ℕ → Type 0 where
+  empty : Needs met order [] zero
+  first_with : {first : ℕ} {later tried : List ℕ} (steps : ℕ → ℕ) → AreTried met order first later tried
+      → ((candidate : ℕ) → Contains tried candidate → Needs met order (without candidate later) (steps candidate))
+      → Needs met order (first ∷ later) (sum_by (λ candidate. 1 + steps candidate) tried)
 
 -- the order needs more steps than the budget
 abbrev pub NeedsMore : (ℕ → ℕ → Bool) → List ℕ → ℕ → Type 0

@@ -1,9 +1,9 @@
 ghost use Rattle.std.specs.Prelude.{◌<◌, List, length, IfOk, IfSome};
 ghost use Rattle.er_pair.specs.inside.Search.{IsDeadAhead, AreDeadEnds};
-ghost use Rattle.er_pair.specs.declared.rows.Row.{Row};
-ghost use Rattle.er_pair.specs.declared.rows.TheConstants.{WORDS};
+ghost use Rattle.er_pair.specs.declared.places.Places.{Places};
+ghost use Rattle.er_pair.specs.declared.places.TheConstants.{WORDS};
 
-use crate::rows::{Cursor, Row};
+use crate::places::{Cursor, Places};
 use std::alloc::{AllocError, Global};
 
 /// How many dead ends are kept at once.
@@ -19,7 +19,7 @@ pub struct KnownDeadEnd {
 
 /// Room for the dead ends of a search.
 pub fn no_dead_ends(alloc: Global) -> Result<Vec<KnownDeadEnd>, AllocError>
-    ensures { IfOk result (λ kept. (rows : List Row) → AreDeadEnds rows kept.items) }
+    ensures { IfOk result (λ kept. (rows : List Places) → AreDeadEnds rows kept.items) }
 {
     vec![in alloc; KnownDeadEnd {
         index: 0,
@@ -39,7 +39,7 @@ fn slot(left: u64, count: usize) -> usize
 /// The steps that a search from here takes, where it is known to be a dead end.
 pub fn steps_of(kept: &[KnownDeadEnd], ahead: Cursor) -> Option<u32>
     requires { 0 < length kept.now }
-    ensures { IfSome result (λ steps. (rows : List Row) (used : Row) → AreDeadEnds rows kept.now
+    ensures { IfSome result (λ steps. (rows : List Places) (used : Places) → AreDeadEnds rows kept.now
         → IsDeadAhead rows used ahead steps) }
 {
     let found = &kept[slot(ahead.left, kept.len())];
@@ -51,10 +51,10 @@ pub fn steps_of(kept: &[KnownDeadEnd], ahead: Cursor) -> Option<u32>
 }
 
 /// Keeps a dead end of which all places lie in the last word: there it doesn't depend on what is used in other words.
-pub fn keep(kept: &mut [KnownDeadEnd], rows: &[Row], ahead: Cursor, steps: u32)
+pub fn keep(kept: &mut [KnownDeadEnd], rows: &[Places], ahead: Cursor, steps: u32)
     requires word { ahead.index < WORDS }
     requires known { AreDeadEnds rows.now kept.old }
-    requires dead { (used : Row) × IsDeadAhead rows.now used ahead steps }
+    requires dead { (used : Places) × IsDeadAhead rows.now used ahead steps }
     ensures { AreDeadEnds rows.now kept.new }
 {
     if 64 * (ahead.index + 1) < rows.len() {

@@ -1,6 +1,6 @@
 //! Laws of orders and of legal pairings, over the definitions alone. A law is a function with no code, whose contract is the law.
 
-ghost use Rattle.er_pair.specs.Laws.{OneOrder, StandOnce, OneEarliest, LegalSeats};
+ghost use Rattle.er_pair.specs.Laws.{OneOrder, StandOnce, OneEarliest, LegalSeats, ShortNeeds};
 
 /// Under given keys an event has at most one order.
 pub fn one_order()
@@ -20,4 +20,9 @@ pub fn one_earliest()
 /// In a legal pairing each entry sits once, no pair has met before, and the first of a pair stands before the second.
 pub fn legal_seats()
     ensures { LegalSeats }
+{}
+
+/// An order of up to 14 entries needs at most 325,767 steps, whoever has met.
+pub fn short_needs()
+    ensures { ShortNeeds }
 {}

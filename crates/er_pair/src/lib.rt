@@ -8,7 +8,7 @@ pub mod laws;
 mod meetings;
 mod orders;
 mod pairings;
-mod rows;
+mod places;
 mod search;
 mod seats;
 mod words;

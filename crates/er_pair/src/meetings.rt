@@ -1,9 +1,10 @@
 ghost use Rattle.std.specs.Prelude.{◌≡◌, ℕ, ◌<◌, ◌≤◌, ◌||◌, length, IsFalse, IsOk, IfOk, MatchOption};
 ghost use Rattle.er_event.specs.Round.{are_pair};
 ghost use Rattle.er_pair.specs.Met.{have_met, has_met};
-ghost use Rattle.er_pair.specs.Rows.{has_place};
+ghost use Rattle.er_pair.specs.inside.Opponents.{HasMetNobody};
+ghost use Rattle.er_pair.specs.inside.Places.{has_place};
 
-use crate::rows::{Row, empty_rows};
+use crate::places::{Places, empty_rows};
 use er_event::{Event, MAX_PLAYERS};
 use std::alloc::{AllocError, Global};
 use std::marker::Model;
@@ -15,23 +16,23 @@ pub const NUMBERS: usize = MAX_PLAYERS as usize + 1;
 #[derive(Debug, Drop)]
 pub struct Met {
     /// For each number, those that it has met.
-    rows: Vec<Row>,
+    rows: Vec<Places>,
 }
 
 impl Model for Met {
-    ghost use Rattle.std.specs.Prelude.{List};
-    ghost use Rattle.er_pair.specs.declared.rows.Row.{Row};
-    ghost use Rattle.er_pair.specs.Met.{IsTable};
+    ghost use Rattle.std.specs.Prelude.{ℕ, List};
+    ghost use Rattle.er_pair.specs.inside.Opponents.{opponents_in, IsTable};
 
-    ghost Value = { List Row };
+    ghost Value = { List (List ℕ) };
 
-    ghost view = { λ m. m.rows.items };
+    ghost view = { λ m. opponents_in m.rows.items };
 
     ghost invariant = { λ m. IsTable m.rows.items };
 }
 
 impl Met {
     /// Nobody has met anybody.
+    #[tactic(auto, using(crate::proofs::Opponents::met_by_place))]
     pub fn empty(alloc: Global) -> Result<Met, AllocError>
         ensures { IfOk result (λ met. (p q : ℕ) → IsFalse (has_met met p q)) }
     {
@@ -54,9 +55,11 @@ impl Met {
     }
 
     /// Whether the two have met. No number above 512 has met anybody.
+    #[tactic(auto, using(crate::proofs::Opponents::met_by_place))]
     pub fn has(&self, one: u16, other: u16) -> bool
         ensures value { result ≡ has_met self.now one other }
         ensures symmetric { result ≡ has_met self.now other one }
+        ensures few { MAX_PLAYERS < one → IsFalse result }
     {
         let (row, column) = (usize::from(one), usize::from(other));
         row < NUMBERS && column < NUMBERS && self.rows[row].has(column)
@@ -77,9 +80,10 @@ impl Met {
     }
 
     /// Those that a number has met, where it is at most 512.
-    pub(crate) fn row(&self, number: u16) -> Option<&Row>
-        ensures { MatchOption result (NUMBERS ≤ number) (λ row. (p : ℕ) → p < NUMBERS
-            → has_met self.now p number ≡ has_place row.now p) }
+    #[tactic(auto, using(crate::proofs::Opponents::met_by_place))]
+    pub(crate) fn row(&self, number: u16) -> Option<&Places>
+        ensures { MatchOption result (HasMetNobody self.now number) (λ row. (number < NUMBERS)
+            × ((p : ℕ) → p < NUMBERS → has_met self.now p number ≡ has_place row.now p)) }
     {
         self.rows.get(usize::from(number))
     }

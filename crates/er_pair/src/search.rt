@@ -1,10 +1,10 @@
 ghost use Rattle.std.specs.Prelude.{◌≡◌, ℕ, ◌*◌, ◌<◌, ◌≤◌, length};
-ghost use Rattle.er_pair.specs.Rows.{has_place};
+ghost use Rattle.er_pair.specs.inside.Places.{has_place};
 ghost use Rattle.er_pair.specs.inside.Search.{free_ahead, answer_ahead, SearchAnswers, AreDeadEnds};
-ghost use Rattle.er_pair.specs.declared.rows.TheConstants.{WORDS};
+ghost use Rattle.er_pair.specs.declared.places.TheConstants.{WORDS};
 
 use crate::dead_ends::{KnownDeadEnd, keep, steps_of};
-use crate::rows::{Cursor, Row};
+use crate::places::{Cursor, Places};
 use er_event::MAX_PLAYERS;
 
 /// How a search ended.
@@ -20,8 +20,8 @@ pub enum Outcome {
 
 /// Pairs the two positions that are free and ahead, if they haven't met.
 fn last_pair(
-    rows: &[Row],
-    used: &Row,
+    rows: &[Places],
+    used: &Places,
     ahead: Cursor,
     pairs: &mut [(usize, usize)],
     steps: &mut u32,
@@ -55,8 +55,8 @@ fn last_pair(
 /// its partner, and the others ahead are searched. A candidate that the first hasn't met takes one of the steps; the row of a position
 /// tells whom it has met. What is kept as a dead end isn't searched again, and takes the same steps.
 pub fn search(
-    rows: &[Row],
-    used: &mut Row,
+    rows: &[Places],
+    used: &mut Places,
     ahead: Cursor,
     pairs: &mut [(usize, usize)],
     steps: &mut u32,

@@ -1,16 +1,16 @@
 ghost use Rattle.std.specs.Prelude.{◌≡◌, ℕ, ◌<◌, ◌≤◌, length, All, IsFalse, IfOk};
-ghost use Rattle.er_pair.specs.Rows.{has_place, row_at};
-ghost use Rattle.er_pair.specs.inside.Seats.{IsSeatedWith, AreByNumber, CountsAll, AreByPosition};
+ghost use Rattle.er_pair.specs.inside.Places.{has_place, row_at};
+ghost use Rattle.er_pair.specs.inside.Seats.{IsSeatedWith, OthersHaveMetNobody, AreByNumber, CountsAll, AreByPosition};
 
 use crate::meetings::{Met, NUMBERS};
-use crate::rows::{Cursor, PLACES, Row, empty_rows};
+use crate::places::{BITS, Cursor, Places, empty_rows};
 use er_event::MAX_PLAYERS;
 use std::alloc::{AllocError, Global};
 
 /// Puts the position into the row of each of the numbers.
-fn seat_with_each(rows: &mut [Row], numbers: &Row, position: usize)
+fn seat_with_each(rows: &mut [Places], numbers: &Places, position: usize)
     requires few { length rows.old ≤ NUMBERS }
-    requires position { position < PLACES }
+    requires position { position < BITS }
     ensures { IsSeatedWith numbers.now position rows.old rows.new }
 {
     let absent = numbers.complement();
@@ -21,11 +21,12 @@ fn seat_with_each(rows: &mut [Row], numbers: &Row, position: usize)
 }
 
 /// Puts each position of the order into the rows of those whom its entry has met.
-fn seat_all(rows: &mut [Row], order: &[u16], met: &Met)
+fn seat_all(rows: &mut [Places], order: &[u16], met: &Met)
     requires rows { length rows.old ≤ NUMBERS }
     requires few { length order.now ≤ MAX_PLAYERS }
     requires empty { All (λ row. (p : ℕ) → IsFalse (has_place row p)) rows.old }
-    ensures { AreByNumber met.now order.now rows.new }
+    ensures met { AreByNumber met.now order.now rows.new }
+    ensures others { OthersHaveMetNobody met.now order.now }
 {
     for (position, number) in order.iter().enumerate() {
         if let Some(opponents) = met.row(*number) {
@@ -47,11 +48,12 @@ fn count_of_numbers(order: &[u16]) -> usize
 }
 
 /// For each number up to the greatest of the order, the positions at which those stand whom it has met.
-fn by_number(alloc: Global, order: &[u16], met: &Met) -> Result<Vec<Row>, AllocError>
+fn by_number(alloc: Global, order: &[u16], met: &Met) -> Result<Vec<Places>, AllocError>
     requires few { length order.now ≤ MAX_PLAYERS }
     ensures few { IfOk result (λ rows. length rows.items ≤ NUMBERS) }
     ensures enough { IfOk result (λ rows. CountsAll order.now (length rows.items)) }
     ensures met { IfOk result (λ rows. AreByNumber met.now order.now rows.items) }
+    ensures others { IfOk result (λ _. OthersHaveMetNobody met.now order.now) }
 {
     let mut rows = empty_rows(alloc, count_of_numbers(order))?;
     seat_all(rows.as_mut_slice(), order, met);
@@ -59,19 +61,19 @@ fn by_number(alloc: Global, order: &[u16], met: &Met) -> Result<Vec<Row>, AllocE
 }
 
 /// The row of a number; one above 512 has met nobody.
-fn row_of(rows: &[Row], number: u16) -> Row
+fn row_of(rows: &[Places], number: u16) -> Places
     ensures { (p : ℕ) → has_place result p ≡ has_place (row_at rows.now number) p }
 {
     let at = usize::from(number);
     if at < rows.len() {
         rows[at]
     } else {
-        Row::empty()
+        Places::empty()
     }
 }
 
 /// For each position of the order, the positions at which those stand whom its entry has met.
-pub fn by_position(alloc: Global, order: &[u16], met: &Met) -> Result<Vec<Row>, AllocError>
+pub fn by_position(alloc: Global, order: &[u16], met: &Met) -> Result<Vec<Places>, AllocError>
     requires few { length order.now ≤ MAX_PLAYERS }
     ensures count { IfOk result (λ rows. length rows.items ≡ length order.now) }
     ensures met { IfOk result (λ rows. AreByPosition met.now order.now rows.items) }

@@ -1,10 +1,10 @@
 -- The fields of a record, and the number that digits are.
 use Rattle.std.proofs.{lemmas.Grind.common_steps, Common.{◌≡◌, ◌≢◌, ℕ, zero, suc, ◌^◌, ◌<◌, ◌≤◌, true, false, Bor, List, [], ◌∷◌, length}}
-use Rattle.std.proofs.{Common.{drop, Option, Some, None, Result, Ok, Err, refl, ap, ◌∙◌, arith}, lemmas.Bool.Decides.nat_tests}
+use Rattle.std.proofs.{Common.{drop, Option, Some, None, Result, Ok, Err, refl, sym, ap, ◌∙◌, arith}, lemmas.Bool.Decides.nat_tests}
 use Rattle.std.proofs.lemmas.Str.Parse.{IsNumeralModel, numerals_by_value, parse_digits, digits_value_short}
 use Rattle.std.proofs.lemmas.Fmt.{IsAscii-from_digits, decimal_nonempty, digits_decimal, digits_value-decimal, length-decimal-le}
 use Rattle.std.proofs.lemmas.Str.{IsUtf8-from_ascii}
-use Rattle.std.specs.{Fmt.decimal, Option.option_map, Str.IsUtf8, Char.is_ascii_digit, List.list_all, Str.Parse.digits_value}
+use Rattle.std.specs.{Fmt.decimal, Option.{MatchOption, option_map}, Str.IsUtf8, Char.is_ascii_digit, List.list_all, Str.Parse.digits_value}
 use Rattle.std.specs.{Str.Parse.ParsesUnsigned, Result.result_ok}
 use Rattle.csv.specs.Records.{field_at}
 use Rattle.er_paper.specs.Reading.{number_of, number_within, are_fields}
@@ -39,6 +39,11 @@ there (f ∷ fs) (suc i) below e = there fs i (omega arith) e
 pub missing : (fields : List (List ℕ)) (i : ℕ) (o : Option (Bor (List ℕ))) → i < length fields
     → option_map (λ (s : Bor (List ℕ)). s.now) o ≡ field_at fields i → o ≡ None → ⊥
 missing fields i h1 below e none = grind (arith, common_steps, there)
+
+pub only_there : (fields : List (List ℕ)) (o : Option (Bor (List ℕ))) → length fields ≡ 1
+    → option_map (λ (s : Bor (List ℕ)). s.now) o ≡ field_at fields 0 → MatchOption o (length fields ≢ 1) (λ f. fields ≡ f.now ∷ [])
+only_there fields None n e = absurd (missing fields 0 None (omega (arith, n)) e refl)
+only_there fields (Some f) n e = one_field fields f.now n (sym e)
 
 -- ---- headings
 

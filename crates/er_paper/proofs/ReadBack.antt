@@ -6,11 +6,12 @@ use Rattle.std.proofs.{lemmas.Fmt.decimal_nonempty, lemmas.List.map-append, lemm
 use Rattle.std.proofs.{lemmas.List.FromFn.{get_or-range_with_len, length-range_with_len}, lemmas.Map.Made.IsDistinct-from_AllPairs}
 use Rattle.std.proofs.lemmas.Map.Steps.{length-le_from_distinct_below}
 use Rattle.std.specs.{List.{AllByRecursion, list_any, range_with_len}, Fmt.decimal}
+use Rattle.std.specs.List.{enumerate_from}
 use Rattle.csv.specs.{Reading.{AreRecords, default_config, strip_bom}, Writing.{escaped, fields_text, is_blank, read_back}}
 use Rattle.er_paper.specs.Csv.{csv_text}
 use Rattle.er_share.specs.declared.TheConstants.{MAX_ROUNDS}
 use Rattle.er_event.specs.{declared.players.Player.Player, declared.matches.Match.Match, declared.rounds.Round.Round}
-use Rattle.er_event.specs.{declared.scores.Games.Games, Name.is_lawful_name, Round.{is_bye, numbered_from, seats}, Score.is_swiss_score}
+use Rattle.er_event.specs.{declared.scores.Games.Games, Name.is_lawful_name, Round.{is_bye, seats}, Score.is_swiss_score}
 use Rattle.er_event.specs.{Event.EventValue, Sound.{IsRound, IsSoundButForSeeds, names, numbers}}
 use Rattle.er_paper.specs.{declared.imports.CsvFault.CsvFault, declared.imports.PlayerLine.PlayerLine}
 use Rattle.er_paper.specs.{declared.imports.ResultLine.ResultLine, Csv.HasRecords, Tables.{players_heading, player_fields, players_table}}
@@ -27,14 +28,14 @@ use Rattle.csv.specs.declared.parser.State.TheVariants as st
 records_at : (rows : List (List (List ℕ))) → strip_bom (csv_text rows) ≡ csv_text rows → map read_back rows ≡ rows
     → HasRecords (csv_text rows) rows
 records_at rows plain same =
-    subst (λ (bytes : List ℕ). AreRecords default_config st.StartRecord bytes rows) (sym plain)
+    subst (λ (bytes : List ℕ). AreRecords default_config st.StartRecord bytes rows) (sym (ap strip_bom plain ∙ plain))
     (subst (λ (rs : List (List (List ℕ))). AreRecords default_config st.StartRecord (csv_text rows) rs) same (back rows))
 
 records_once : (rows found : List (List (List ℕ))) → strip_bom (csv_text rows) ≡ csv_text rows → map read_back rows ≡ rows
     → HasRecords (csv_text rows) found → found ≡ rows
 records_once rows found plain same has =
     one_list default_config st.StartRecord (csv_text rows) found rows
-    (subst (λ (bytes : List ℕ). AreRecords default_config st.StartRecord bytes found) plain has)
+    (subst (λ (bytes : List ℕ). AreRecords default_config st.StartRecord bytes found) (ap strip_bom plain ∙ plain) has)
     (subst (λ (rs : List (List (List ℕ))). AreRecords default_config st.StartRecord (csv_text rows) rs) same (back rows))
 
 -- ---- players
@@ -109,7 +110,7 @@ row_back round table a b None r t first second lawful = grind (arith, common_ste
 row_back round table a b (Some s) r t first second lawful = grind (arith, common_steps, score_back, within-decimal)
 
 matches_back : (ms : List Match) (round n : ℕ) → (1 ≤ round) × (round ≤ MAX_ROUNDS) → n + length ms ≤ 513 → AllByRecursion IsListed ms
-    → map result_of (map (result_fields round) (numbered_from n ms)) ≡ map Some (map (line_of_match round) (numbered_from n ms))
+    → map result_of (map (result_fields round) (enumerate_from n ms)) ≡ map Some (map (line_of_match round) (enumerate_from n ms))
 matches_back [] round n r few listed = refl
 matches_back (m ∷ ms) round n r few listed = grind (arith, common_steps, matches_back ms round (n + 1) r (omega arith) listed.1, row_back)
 

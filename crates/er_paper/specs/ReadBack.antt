@@ -1,10 +1,11 @@
 -- What an event's exports hold, line by line, and that they read back.
-use Rattle.std.specs.Prelude.{◌≡◌, ℕ, ◌+◌, List, [], ◌∷◌, ◌++◌, map, Result, Ok}
+use Rattle.std.specs.Prelude.{◌≡◌, ℕ, List, map, flat_map, Result, Ok}
+use Rattle.std.specs.List.{enumerate_from}
 use Rattle.er_event.specs.declared.players.Player.{Player}
 use Rattle.er_event.specs.declared.matches.Match.{Match}
 use Rattle.er_event.specs.declared.rounds.Round.{Round}
 use Rattle.er_event.specs.Event.{EventValue}
-use Rattle.er_event.specs.Round.{numbered_from, table_of}
+use Rattle.er_event.specs.Round.{table_of}
 use Rattle.er_event.specs.Sound.{IsSoundButForSeeds}
 use Rattle.er_paper.specs.declared.imports.CsvFault.{CsvFault}
 use Rattle.er_paper.specs.declared.imports.PlayerLine.{PlayerLine}
@@ -26,11 +27,10 @@ line_of_match round numbered =
 
 -- tables 1, 2, .. and then the bye
 abbrev pub lines_of_round : ℕ → List Match → List ResultLine
-lines_of_round round matches = map (line_of_match round) (numbered_from 1 matches)
+lines_of_round round matches = map (line_of_match round) (enumerate_from 1 matches)
 
 abbrev pub lines_of_rounds : ℕ → List Round → List ResultLine
-lines_of_rounds round [] = []
-lines_of_rounds round (r ∷ later) = lines_of_round round r.matches ++ lines_of_rounds (round + 1) later
+lines_of_rounds first rounds = flat_map (λ (n : ℕ × Round). lines_of_round n.0 n.1.matches) (enumerate_from first rounds)
 
 -- round by round
 abbrev pub exported_results : EventValue → List ResultLine

@@ -1,12 +1,13 @@
 -- The printed texts of an event: a heading, and one line for each row, player or match.
-use Rattle.std.specs.Prelude.{◌≡◌, ℕ, ◌+◌, ◌-◌, ◌==◌, List, [], ◌∷◌, ◌++◌, flat_map, if◌then◌else◌, Option, None, Some, option_map}
+use Rattle.std.specs.Prelude.{◌≡◌, ℕ, ◌-◌, ◌==◌, List, [], ◌∷◌, ◌++◌, flat_map, if◌then◌else◌, Option, None, Some, option_map}
+use Rattle.std.specs.List.{enumerate_from}
 use Rattle.std.specs.Prelude.{slice_get, codes}
 use Rattle.std.specs.Fmt.{decimal}
 use Rattle.er_event.specs.declared.players.Player.{Player}
 use Rattle.er_event.specs.declared.matches.Match.{Match}
 use Rattle.er_event.specs.declared.rounds.Round.{Round}
 use Rattle.er_event.specs.Event.{EventValue}
-use Rattle.er_event.specs.Round.{numbered_from, table_of}
+use Rattle.er_event.specs.Round.{table_of}
 use Rattle.er_event.specs.Bracket.{champion}
 use Rattle.er_rank.specs.declared.rows.Row.{Row}
 use Rattle.er_rank.specs.Standings.{AreStandings}
@@ -56,7 +57,7 @@ abbrev pub table_line : EventValue → ℕ × Match → List ℕ
 table_line event numbered = pairing_line event (table_of numbered) numbered.1
 
 abbrev pub round_text : EventValue → List Match → List ℕ
-round_text event matches = codes " Tab    A    B Score Names" ++ (10 ∷ flat_map (table_line event) (numbered_from 1 matches))
+round_text event matches = codes " Tab    A    B Score Names" ++ (10 ∷ flat_map (table_line event) (enumerate_from 1 matches))
 
 -- none where the round isn't stored
 abbrev pub pairings_text : EventValue → ℕ → Option (List ℕ)
@@ -69,11 +70,10 @@ abbrev pub slot_line : EventValue → ℕ → ℕ × Match → List ℕ
 slot_line event stage numbered = right_aligned 4 stage ++ (32 ∷ pairing_line event numbered.0 numbered.1)
 
 abbrev pub stage_lines : EventValue → ℕ → List Match → List ℕ
-stage_lines event stage matches = flat_map (slot_line event stage) (numbered_from 1 matches)
+stage_lines event stage matches = flat_map (slot_line event stage) (enumerate_from 1 matches)
 
 abbrev pub stages_lines : EventValue → ℕ → List (List Match) → List ℕ
-stages_lines event stage [] = []
-stages_lines event stage (matches ∷ later) = stage_lines event stage matches ++ stages_lines event (stage + 1) later
+stages_lines event first stages = flat_map (λ (n : ℕ × List Match). stage_lines event n.0 n.1) (enumerate_from first stages)
 
 abbrev pub champion_line : EventValue → Option ℕ → List ℕ
 champion_line event None = []

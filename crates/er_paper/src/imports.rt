@@ -1,14 +1,13 @@
 ghost use Rattle.std.specs.Prelude.{◌≡◌, ◌≢◌, ◌≤◌, ◌++◌, ◌<◌, ◌∷◌, [], Ok, Err, IfOk, IfErr, OnOk, map, codes};
-ghost use Rattle.std.specs.List.{list_all};
-ghost use Rattle.std.specs.Char.{is_ascii_digit};
 ghost use Rattle.er_paper.specs.Tables.{players_heading, results_heading};
 ghost use Rattle.csv.specs.Records.{fields_of};
 ghost use Rattle.er_event.specs.declared.players.TheConstants.{MAX_PLAYERS};
-ghost use Rattle.er_paper.specs.Reading.{number_of, number_within, lawful_player_line, full_line, name_line, lines_from, are_fields};
+ghost use Rattle.er_paper.specs.Reading.{number_within, lawful_player_line, full_line, name_line, lines_from, are_fields};
 ghost use Rattle.er_paper.specs.Reading.{ReadsPlayers};
 ghost use Rattle.er_paper.specs.Reading.{score_of, result_of, ReadsResults};
 ghost use Rattle.er_paper.specs.inside.Lines.{chosen_line};
 
+use crate::numbers::number_within;
 use crate::records::{only_field, records, seven_fields, three_fields};
 use csv::ByteRecord;
 use er_event::{Games, MAX_PLAYERS, MAX_ROUNDS, Name, PlayerNo, Score};
@@ -64,37 +63,6 @@ enum Heading {
     Names,
 }
 
-/// Whether each byte is a digit. A sign is none.
-fn are_digits(bytes: &[u8]) -> bool
-    ensures { result ≡ list_all is_ascii_digit bytes.now }
-{
-    bytes.iter().all(|byte| byte.is_ascii_digit())
-}
-
-/// The number that 1 to 6 digits are.
-fn number_of(field: &[u8]) -> Option<u32>
-    ensures { result ≡ number_of field.now }
-{
-    if field.len() > 6 || !are_digits(field) {
-        return None;
-    }
-    match str::from_utf8(field) {
-        Ok(digits) => digits.parse().ok(),
-        Err(_) => None,
-    }
-}
-
-fn number_within(low: usize, high: usize, field: &[u8]) -> Option<usize>
-    ensures { result ≡ number_within low high field.now }
-{
-    let number = number_of(field)? as usize;
-    if low <= number && number <= high {
-        Some(number)
-    } else {
-        None
-    }
-}
-
 /// The player of this place, where the name is lawful and there is room.
 fn player_line(place: usize, name: &[u8], flag: Option<usize>) -> Option<PlayerLine>
     requires { 1 ≤ place }
@@ -146,10 +114,7 @@ fn player_lines(
 {
     let mut lines = Vec::new(alloc);
     for (at, row) in rows.iter().enumerate() {
-        let Some(line) = line_under(heading, at + 1, row) else {
-            let bad = at + 1;
-            return Err(CsvFault::BadRow { row: bad });
-        };
+        let line = line_under(heading, at + 1, row).ok_or(CsvFault::BadRow { row: at + 1 })?;
         lines.push(line).map_err(AllocError::from)?;
     }
     Ok(lines)
@@ -181,12 +146,8 @@ pub fn read_players_csv(alloc: Global, bytes: &[u8]) -> Result<Vec<PlayerLine>, 
     ensures err { IfErr result (λ fault. fault ≢ CsvFault.Memory
         → ReadsPlayers bytes.now (Err fault)) }
 {
-    let Ok(rows) = records(alloc, bytes) else {
-        return Err(CsvFault::Memory);
-    };
-    let Some((first, rows)) = rows.as_slice().split_first() else {
-        return Err(CsvFault::BadHeading);
-    };
+    let rows = records(alloc, bytes)?;
+    let (first, rows) = rows.as_slice().split_first().ok_or(CsvFault::BadHeading)?;
     if is_full_heading(first) {
         player_lines(alloc, Heading::Full, rows)
     } else if is_names_heading(first) {
@@ -290,9 +251,7 @@ fn result_lines(alloc: Global, rows: &[ByteRecord]) -> Result<Vec<ResultLine>, C
 {
     let mut lines = Vec::new(alloc);
     for (at, row) in rows.iter().enumerate() {
-        let Some(line) = result_of(row) else {
-            return Err(CsvFault::BadRow { row: at + 1 });
-        };
+        let line = result_of(row).ok_or(CsvFault::BadRow { row: at + 1 })?;
         push_result(
             &mut lines, line.round, line.table, line.a, line.b, line.score,
         )?;
@@ -306,12 +265,8 @@ pub fn read_results_csv(alloc: Global, bytes: &[u8]) -> Result<Vec<ResultLine>, 
     ensures err { IfErr result (λ fault. fault ≢ CsvFault.Memory
         → ReadsResults bytes.now (Err fault)) }
 {
-    let Ok(rows) = records(alloc, bytes) else {
-        return Err(CsvFault::Memory);
-    };
-    let Some((first, rows)) = rows.as_slice().split_first() else {
-        return Err(CsvFault::BadHeading);
-    };
+    let rows = records(alloc, bytes)?;
+    let (first, rows) = rows.as_slice().split_first().ok_or(CsvFault::BadHeading)?;
     if !is_results_heading(first) {
         return Err(CsvFault::BadHeading);
     }

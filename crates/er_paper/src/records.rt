@@ -1,9 +1,17 @@
 ghost use Rattle.std.specs.Prelude.{◌≡◌, ◌∷◌, [], ℕ, List, IfOk, MatchOption, ◌≢◌, length, map};
+ghost use Rattle.csv.specs.Reading.{strip_bom};
 ghost use Rattle.csv.specs.Records.{fields_of};
 ghost use Rattle.er_paper.specs.Csv.{HasRecords};
 
 use csv::{ByteRecord, ErrorKind, ReaderBuilder};
 use std::alloc::{AllocError, Global};
+
+/// The text after a byte order mark, if it begins with one.
+fn without_mark(bytes: &[u8]) -> &[u8]
+    ensures { result.now ≡ strip_bom bytes.now }
+{
+    bytes.strip_prefix(b"\xef\xbb\xbf").unwrap_or(bytes)
+}
 
 /// The records of a text, whatever their lengths. A slice's read does not fail.
 pub fn records(alloc: Global, bytes: &[u8]) -> Result<Vec<ByteRecord>, AllocError>
@@ -12,7 +20,7 @@ pub fn records(alloc: Global, bytes: &[u8]) -> Result<Vec<ByteRecord>, AllocErro
     let rdr = ReaderBuilder::new()
         .has_headers(false)
         .flexible(true)
-        .from_reader(alloc, bytes);
+        .from_reader(alloc, without_mark(bytes));
     let mut rows = Vec::new(alloc);
     for row in rdr.into_byte_records() {
         let row = match row {
@@ -23,9 +31,7 @@ pub fn records(alloc: Global, bytes: &[u8]) -> Result<Vec<ByteRecord>, AllocErro
                 _ => return Err(AllocError),
             },
         };
-        if rows.push(row).is_err() {
-            return Err(AllocError);
-        }
+        rows.push(row)?;
     }
     Ok(rows)
 }
@@ -38,16 +44,7 @@ pub fn three_fields(row: &ByteRecord) -> Option<(&[u8], &[u8], &[u8])>
     if row.len() != 3 {
         return None;
     }
-    let Some(first) = row.get(0) else {
-        return None;
-    };
-    let Some(second) = row.get(1) else {
-        return None;
-    };
-    let Some(third) = row.get(2) else {
-        return None;
-    };
-    Some((first, second, third))
+    Some((row.get(0)?, row.get(1)?, row.get(2)?))
 }
 
 /// The fields of a match's row.
@@ -70,35 +67,14 @@ pub fn seven_fields(row: &ByteRecord) -> Option<ResultFields<'_>>
     if row.len() != 7 {
         return None;
     }
-    let Some(round) = row.get(0) else {
-        return None;
-    };
-    let Some(table) = row.get(1) else {
-        return None;
-    };
-    let Some(a) = row.get(2) else {
-        return None;
-    };
-    let Some(b) = row.get(3) else {
-        return None;
-    };
-    let Some(x) = row.get(4) else {
-        return None;
-    };
-    let Some(y) = row.get(5) else {
-        return None;
-    };
-    let Some(d) = row.get(6) else {
-        return None;
-    };
     Some(ResultFields {
-        round,
-        table,
-        a,
-        b,
-        x,
-        y,
-        d,
+        round: row.get(0)?,
+        table: row.get(1)?,
+        a: row.get(2)?,
+        b: row.get(3)?,
+        x: row.get(4)?,
+        y: row.get(5)?,
+        d: row.get(6)?,
     })
 }
 
@@ -110,8 +86,5 @@ pub fn only_field(row: &ByteRecord) -> Option<&[u8]>
     if row.len() != 1 {
         return None;
     }
-    let Some(field) = row.get(0) else {
-        return None;
-    };
-    Some(field)
+    row.get(0)
 }

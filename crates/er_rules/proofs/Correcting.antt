@@ -1,19 +1,20 @@
 -- A correction that is sent again at once is taken, and gives the same event.
+use Rattle.std.specs.List.{enumerate_from}
 use Rattle.std.proofs.Common.{arith, ◌≡◌, inl, inr, ℕ, ◌+◌, true, false, not, List, [], ◌∷◌, map, Option, Some, None, is_none}
-use Rattle.std.proofs.{Common.{MatchOption, Ok, refl, sym, ap, ap₂, subst}, lemmas.Grind.common_steps, Math.ListN.set, lemmas.List.set-set}
+use Rattle.std.proofs.{Common.{Ok, refl, sym, ap, ap₂, subst}, lemmas.Grind.common_steps, Math.ListN.set, lemmas.List.set-set}
 use Rattle.std.proofs.{lemmas.List.get_or-set_same, lemmas.Option.slice_get_within, lemmas.Bool.{not-false, cases_Bool}}
 use Rattle.er_event.specs.{declared.scores.Games.Games, declared.matches.Match.Match, declared.commands.Command.TheVariants.Correct}
 use Rattle.er_event.specs.{declared.refusals.Refusal.Refusal, declared.refusals.Refusal.TheVariants.{IsBye, BadScore, NotReported}}
-use Rattle.er_event.specs.{Event.EventValue, Round.{is_bye, numbered_from, is_at, match_at}, Score.is_swiss_score, Change.score_table}
+use Rattle.er_event.specs.{Event.EventValue, Round.{is_bye, is_at, match_at}, Score.is_swiss_score, Change.score_table}
 use Rattle.er_event.specs.Change.{with_score}
-use Rattle.er_rules.specs.{Commands.{first_refusal, is_swiss}, Step.{Steps, Makes, Refuses, checks}, Retry.RepeatsCorrection}
+use Rattle.er_rules.specs.{Commands.{first_refusal, is_swiss}, Step.{Steps, StepsBy, checks}, Retry.RepeatsCorrection}
 use Rattle.er_rules.proofs.{Found.found_stored, Keeping.{is_taken, same_Ok, passes}, Sound.asked, Rescoring.{entered_now, scored_round}}
 
 twice : (t n : ℕ) (s : Games) (m : Match) → score_table t s (n, score_table t s (n, m)) ≡ score_table t s (n, m)
 twice t n s m = elim (cases_Bool (is_at t (n, m))) [ inl is ↦ rw (is, is) refl | inr other ↦ rw (other, other) refl ]
 
 rescored : (n t : ℕ) (s : Games) (ms : List Match)
-    → map (score_table t s) (numbered_from n (map (score_table t s) (numbered_from n ms))) ≡ map (score_table t s) (numbered_from n ms)
+    → map (score_table t s) (enumerate_from n (map (score_table t s) (enumerate_from n ms))) ≡ map (score_table t s) (enumerate_from n ms)
 rescored n t s [] = refl
 rescored n t s (m ∷ ms) = ap₂ ◌∷◌ (twice t n s m) (rescored (n + 1) t s ms)
 
@@ -34,8 +35,7 @@ module _ (e : EventValue) (round table : ℕ) (score : Games) (m : Match) (at : 
 
     steps_again : is_swiss e.phase ≡ true → is_swiss_score score ≡ true → Steps after (Correct round table score) (Ok after)
     steps_again swiss lawful =
-        let Then : Option Refusal → Type 0 = λ o.
-        MatchOption o (Makes after (Correct round table score) (Ok after)) (Refuses (Ok after)) in
+        let Then : Option Refusal → Type 0 = λ o. StepsBy o after (Correct round table score) (Ok after) in
         subst Then (sym (free swiss lawful)) (ap (λ (x : EventValue). Ok x) (sym same_event))
 
 pub correct_again : RepeatsCorrection

@@ -1,7 +1,7 @@
 -- The step keeps the seeds of the playoff.
 use Rattle.std.proofs.Common.{arith, true, false, ◌||◌, ◌⊎◌, ◌≡◌, inl, inr, ℕ, zero, suc, ◌-◌, not, List, [], ◌∷◌, ◌++◌, get_or, Option}
 use Rattle.std.proofs.Common.{Some, None}
-use Rattle.std.proofs.{Common.{MatchOption, Result, Ok, IfOk, OnOk, refl, sym, ap, subst, ◌∙◌}, lemmas.Grind.common_steps, Math.ListN.set}
+use Rattle.std.proofs.{Common.{Result, Ok, IfOk, OnOk, refl, sym, ap, subst, ◌∙◌}, lemmas.Grind.common_steps, Math.ListN.set}
 use Rattle.std.proofs.lemmas.Option.{none-some, same_Some}
 use Rattle.std.specs.List.{slice_get}
 use Rattle.er_event.specs.{declared.events.Phase.Phase, declared.events.Phase.TheVariants.{Enrolling, Swiss, Playoff}}
@@ -12,7 +12,7 @@ use Rattle.er_event.specs.Change.{match_with_score}
 use Rattle.er_event.specs.{Change.{stage_of, scored_slot, one_more, scored_stages}, Sound.IsSoundButForSeeds}
 use Rattle.er_rank.specs.{declared.rows.Row.Row, Standings.{IsRowOf, IsTop}}
 use Rattle.er_bracket.specs.Seeds.{first_stage}
-use Rattle.er_rules.specs.{Commands.{Check, first_refusal, is_enrolling, is_swiss}, Step.{Makes, Refuses, Steps, Answers, checks}}
+use Rattle.er_rules.specs.{Commands.{Check, first_refusal, is_enrolling, is_swiss}, Step.{Makes, StepsBy, Steps, Answers, checks}}
 use Rattle.er_rules.specs.{Step.with_stage_score, Sound.{HasSeeds, IsSound}}
 use Rattle.er_event.specs.declared.commands.Command.TheVariants.{Enrol, Start, Pair, Cut, Playoff as PlayOff}
 
@@ -91,7 +91,7 @@ first_scored (x ∷ stages) k t score first at =
 pub is_taken : (e next : EventValue) (c : Command) → Steps e c (Ok next) → (first_refusal (checks e c) ≡ None) × Makes e c (Ok next)
 is_taken e next c steps = by_check (first_refusal (checks e c)) refl steps
   where
-    by_check : (o : Option Refusal) → first_refusal (checks e c) ≡ o → MatchOption o (Makes e c (Ok next)) (Refuses (Ok next))
+    by_check : (o : Option Refusal) → first_refusal (checks e c) ≡ o → StepsBy o e c (Ok next)
         → (first_refusal (checks e c) ≡ None) × Makes e c (Ok next)
     by_check h1 is made = grind (arith, common_steps)
 

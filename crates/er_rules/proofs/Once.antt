@@ -1,12 +1,12 @@
 -- A command does one thing to a sound event.
-use Rattle.std.proofs.Common.{◌≡◌, ℕ, List, [], ◌∷◌, ◌++◌, Option, Some, None, MatchOption, Result, Ok, Err, sym, ap, subst, ◌∙◌}
+use Rattle.std.proofs.Common.{◌≡◌, ℕ, List, [], ◌∷◌, ◌++◌, Option, Some, None, Result, Ok, Err, sym, ap, subst, ◌∙◌}
 use Rattle.er_event.specs.{declared.commands.Command.Command, declared.commands.Command.TheVariants.{Pair, Cut}}
 use Rattle.er_event.specs.{declared.refusals.Refusal.Refusal, declared.events.Phase.TheVariants.Playoff, Event.EventValue}
 use Rattle.er_event.specs.Sound.{IsSoundButForSeeds}
 use Rattle.er_rank.specs.Standings.{HasOneTop}
 use Rattle.er_bracket.specs.Seeds.{first_stage}
 use Rattle.er_pair.specs.{Met.have_met, Order.seed_words, Pairing.round_of, Laws.{OneOrder, OneEarliest}}
-use Rattle.er_rules.specs.{Commands.first_refusal, Step.{Pairs, Makes, Refuses, Steps, checks}}
+use Rattle.er_rules.specs.{Commands.first_refusal, Step.{Pairs, Makes, StepsBy, Steps, checks}}
 use Rattle.er_pair.specs.Pairing as pairing
 
 module _ (one_order : OneOrder) (one_earliest : OneEarliest) (one_top : HasOneTop) (e : EventValue) (sound : IsSoundButForSeeds e) where
@@ -32,7 +32,6 @@ module _ (one_order : OneOrder) (one_earliest : OneEarliest) (one_top : HasOneTo
   pub steps_once : (c : Command) (one other : Result EventValue Refusal) → Steps e c one → Steps e c other → one ≡ other
   steps_once c one other p q = by_check (first_refusal (checks e c)) p q
     where
-      by_check : (o : Option Refusal) → MatchOption o (Makes e c one) (Refuses one) → MatchOption o (Makes e c other) (Refuses other)
-          → one ≡ other
+      by_check : (o : Option Refusal) → StepsBy o e c one → StepsBy o e c other → one ≡ other
       by_check None a b = made_once c one other a b
       by_check (Some why) a b = a ∙ sym b

@@ -3,10 +3,11 @@ use Rattle.std.proofs.Common.{arith, ◌≡◌, ◌==◌, ℕ, ◌+◌, ◌-◌,
 use Rattle.std.proofs.{Common.{Result, Ok, Err, refl, sym, ap, subst, ◌∙◌}, lemmas.Grind.common_steps, Math.ListN.set}
 use Rattle.std.proofs.{lemmas.Option.{none-some, same_Some}, lemmas.Bool.{not-false, cond_both}}
 use Rattle.std.specs.Option.{option_map}
+use Rattle.std.specs.List.{enumerate_from}
 use Rattle.er_event.specs.{declared.scores.Games.Games, declared.matches.Match.Match, declared.rounds.Round.Round}
 use Rattle.er_event.specs.{declared.commands.Command.Command, declared.commands.Command.TheVariants.{Pair, Correct, Cut}}
 use Rattle.er_event.specs.{declared.refusals.Refusal.Refusal, declared.refusals.Refusal.TheVariants.{IsBye, BadScore}, Event.EventValue}
-use Rattle.er_event.specs.{Round.{is_bye, numbered_from, is_at, match_in, match_at}, Score.is_swiss_score}
+use Rattle.er_event.specs.{Round.{is_bye, is_at, match_in, match_at}, Score.is_swiss_score}
 use Rattle.er_event.specs.Change.{match_with_score, score_table}
 use Rattle.er_rules.specs.{Commands.{is_enrolling, already_reported}, Step.{Steps, Makes, checks}, Fold.Folds, Retry.IsRetryRefusal}
 use Rattle.er_rules.proofs.{Found.{find_mapped, find_passes, Stored, found_stored, stored_more, stored_now, stored_stays}, Keeping.is_taken}
@@ -27,7 +28,7 @@ abbrev scored_table : ℕ → Games → ℕ × Match → ℕ × Match
 scored_table u s p = (p.0, score_table u s p)
 
 numbered_scored : (u n : ℕ) (s : Games) (ms : List Match)
-    → numbered_from n (map (score_table u s) (numbered_from n ms)) ≡ map (scored_table u s) (numbered_from n ms)
+    → enumerate_from n (map (score_table u s) (enumerate_from n ms)) ≡ map (scored_table u s) (enumerate_from n ms)
 numbered_scored u n s [] = refl
 numbered_scored u n s (m ∷ ms) = ap (λ (l : List (ℕ × Match)). scored_table u s (n, m) ∷ l) (numbered_scored u (n + 1) s ms)
 
@@ -39,36 +40,36 @@ module _ (t u : ℕ) (s : Games) where
   bye_same p = cond_both (is_at u p) (match_with_score s p.1) p.1 (λ (x : Match). is_bye x ≡ is_bye p.1) (λ _. refl) (λ _. refl)
 
   -- a table at which a match of two players was found is found after a score
-  hit_after : (ms : List Match) (p : ℕ × Match) → find (is_at t) (numbered_from 1 ms) ≡ Some p → is_bye p.1 ≡ false
-      → HasScore (score_table u s p) → Hit t (numbered_from 1 (map (score_table u s) (numbered_from 1 ms)))
+  hit_after : (ms : List Match) (p : ℕ × Match) → find (is_at t) (enumerate_from 1 ms) ≡ Some p → is_bye p.1 ≡ false
+      → HasScore (score_table u s p) → Hit t (enumerate_from 1 (map (score_table u s) (enumerate_from 1 ms)))
   hit_after ms p found two has =
-      let now = find_mapped (is_at t) (scored_table u s) table_same (numbered_from 1 ms) p found in
+      let now = find_mapped (is_at t) (scored_table u s) table_same (enumerate_from 1 ms) p found in
       (scored_table u s p, rw (numbered_scored u 1 s ms) now, bye_same p ∙ two, has)
 
-  hit_stays : (ms : List Match) → Hit t (numbered_from 1 ms) → Hit t (numbered_from 1 (map (score_table u s) (numbered_from 1 ms)))
+  hit_stays : (ms : List Match) → Hit t (enumerate_from 1 ms) → Hit t (enumerate_from 1 (map (score_table u s) (enumerate_from 1 ms)))
   hit_stays ms (p, found, two, has) =
       hit_after ms p found two (cond_both (is_at u p) (match_with_score s p.1) p.1 HasScore (λ _. (s, refl)) (λ _. has))
 
 found_in : (ms : List Match) (t : ℕ) (m : Match) → match_in ms t ≡ Some m
-    → (p : ℕ × Match) × (find (is_at t) (numbered_from 1 ms) ≡ Some p) × (p.1 ≡ m)
-found_in ms t m at = by_option (find (is_at t) (numbered_from 1 ms)) refl at
+    → (p : ℕ × Match) × (find (is_at t) (enumerate_from 1 ms) ≡ Some p) × (p.1 ≡ m)
+found_in ms t m at = by_option (find (is_at t) (enumerate_from 1 ms)) refl at
   where
-    by_option : (o : Option (ℕ × Match)) → find (is_at t) (numbered_from 1 ms) ≡ o → option_map (λ (q : ℕ × Match). q.1) o ≡ Some m
-        → (p : ℕ × Match) × (find (is_at t) (numbered_from 1 ms) ≡ Some p) × (p.1 ≡ m)
+    by_option : (o : Option (ℕ × Match)) → find (is_at t) (enumerate_from 1 ms) ≡ o → option_map (λ (q : ℕ × Match). q.1) o ≡ Some m
+        → (p : ℕ × Match) × (find (is_at t) (enumerate_from 1 ms) ≡ Some p) × (p.1 ≡ m)
     by_option None is h = absurd (none-some m h)
     by_option (Some p) is h = (p, is, same_Some p.1 m h)
 
 hit_now : (t : ℕ) (s : Games) (ms : List Match) (m : Match) → match_in ms t ≡ Some m → is_bye m ≡ false
-    → Hit t (numbered_from 1 (map (score_table t s) (numbered_from 1 ms)))
+    → Hit t (enumerate_from 1 (map (score_table t s) (enumerate_from 1 ms)))
 hit_now t s ms m at two =
     let p = found_in ms t m at in
-    let is = find_passes (is_at t) (numbered_from 1 ms) p.0 p.1 in
+    let is = find_passes (is_at t) (enumerate_from 1 ms) p.0 p.1 in
     hit_after t t s ms p.0 p.1 (ap is_bye p.2 ∙ two) (s, rw is refl)
 
 -- ---- the rounds
 
 abbrev pub HitIn : ℕ → Round → Type 0
-HitIn t r = Hit t (numbered_from 1 r.matches)
+HitIn t r = Hit t (enumerate_from 1 r.matches)
 
 -- the round is stored, and its table has a score
 abbrev pub IsEntered : ℕ → ℕ → List Round → Type 0
@@ -79,7 +80,7 @@ no_round = record { matches = [] }
 
 -- a round whose matches are given the score at the table
 abbrev rescored : ℕ → Games → Round → Round
-rescored t s r = record { matches = map (score_table t s) (numbered_from 1 r.matches) }
+rescored t s r = record { matches = map (score_table t s) (enumerate_from 1 r.matches) }
 
 abbrev pub scored_round : List Round → ℕ → ℕ → Games → Round
 scored_round rounds k t s = rescored t s (get_or rounds (k - 1) no_round)

@@ -1,22 +1,22 @@
 -- The tables of a legal pairing are a round that the event may have next.
-use Rattle.std.proofs.{lemmas.Grind.common_steps, Common.{◌≡◌, ◌≢◌, ◌⊎◌, inl, inr, ℕ, ◌+◌, ◌-◌, ◌<◌, ◌≤◌, ◌==◌, not, Bool, true, false}}
-use Rattle.std.proofs.Common.{List, [], ◌∷◌, ◌++◌, length, map, filter, take, drop, flat_map, All, AllPairs, IsTrue, IsFalse, IfSome}
-use Rattle.std.proofs.Common.{IsPermutation, Contains, get_or, slice_index, Some, refl, sym, ap, ◌∙◌, arith, length-append, append-nil}
-use Rattle.std.proofs.{Common.append_assoc, lemmas.Bool.{cases_Bool, not-true, not-false, or_parts, eqb-true}}
-use Rattle.std.proofs.{lemmas.Bool.Decides.{nat_tests, Decides-eqb}, lemmas.List.{take-append-drop, get_or-map, get_or_append_left}}
+use Rattle.std.proofs.{lemmas.Grind.common_steps, Common.{◌≡◌, ◌≢◌, ◌⊎◌, inl, inr, ℕ, ◌+◌, ◌-◌, ◌<◌, ◌≤◌, ◌==◌, not, Bool, true}}
+use Rattle.std.proofs.Common.{List, [], ◌∷◌, ◌++◌, length, map, filter, take, flat_map, All, AllPairs, IsTrue, IsFalse, IfSome}
+use Rattle.std.proofs.Common.{IsPermutation, Contains, get_or, slice_index, Option, Some, None, refl, sym, ap, ◌∙◌, arith, length-append, append-nil}
+use Rattle.std.proofs.{Common.append_assoc, lemmas.Bool.{cases_Bool, cases_lt, not-true, eqb-true}}
+use Rattle.std.proofs.{lemmas.Bool.Decides.{nat_tests, Decides-eqb}, lemmas.List.{get_or-map, get_or_append_left}}
 use Rattle.std.proofs.{lemmas.List.length-map, lemmas.List.Concat.flat_map-append, lemmas.List.Elements.{All-push, All-contains}}
-use Rattle.std.proofs.lemmas.List.Elements.{All-append, All-filter, All-map, All-take, All-weaker, All-from_recursion, recursion_from_All}
+use Rattle.std.proofs.lemmas.List.Elements.{All-filter, All-map, All-take, All-weaker, All-from_recursion, recursion_from_All}
 use Rattle.std.proofs.{lemmas.List.Elements.{Contains-get_or, filter_passes}, lemmas.List.FromFn.length-range_with_len}
 use Rattle.std.proofs.{lemmas.List.FromFn.get_or-range_with_len, lemmas.List.Sorted.{IsPermutation-refl, IsPermutation-trans}}
 use Rattle.std.proofs.lemmas.List.Sorted.{IsPermutation-append, IsPermutation-append_comm, IsPermutation-filter_both, All-permutation}
 use Rattle.std.proofs.{lemmas.List.Sorted.length_permutation, lemmas.Map.Keys.IsDistinct-IsPermutation}
 use Rattle.std.proofs.lemmas.Map.Made.{AllPairs-from_IsDistinct, IsDistinct-from_AllPairs}
-use Rattle.std.specs.List.{list_any, range_with_len, AllByRecursion}
+use Rattle.std.specs.List.{list_any, last_or, range_with_len, AllByRecursion}
 use Rattle.er_event.specs.{declared.events.Phase.TheVariants.Swiss, declared.players.Player.Player, declared.matches.Match.Match}
 use Rattle.er_event.specs.{declared.rounds.Round.Round, Event.EventValue, Score.{is_swiss_score, bye_score}, Round.{is_bye, is_complete}}
 use Rattle.er_event.specs.{Round.{is_same_pairing, seats, matches_of}, Sound.{numbers, IsRound, IsSoundButForSeeds}, Change.IsNextRound}
 use Rattle.er_pair.specs.{Met.have_met, Order.{active_numbers, IsOrder}, Pairing.{Pair, positions, all_positions, IsEarliest, entries}}
-use Rattle.er_rules.specs.Commands.{active, newest_is_open}
+use Rattle.er_rules.specs.Commands.{active, is_round_open, newest_is_open}
 use Rattle.er_event.specs.Round.{match_of, tables_of}
 
 -- ---- the tables are the matches of the pairs, in another order
@@ -136,20 +136,25 @@ sits_opposite e p h1 plays = grind (arith, common_steps)
 
 -- ---- the rounds before
 
-none_open : (rs : List Round) → list_any (λ (r : Round). not (is_complete r.matches)) rs ≡ false
-    → AllByRecursion (λ (r : Round). IsTrue (is_complete r.matches)) rs
-none_open [] h = tt
-none_open (r ∷ rs) h =
-    let both = or_parts _ _ h in
-    (not-false (is_complete r.matches) both.0, none_open rs both.1)
+-- the last round of some
+last_at : (o : Option Round) (rs : List Round) (d : Round) → 0 < length rs → last_or o rs ≡ Some (get_or rs (length rs - 1) d)
+last_at o [] d some = absurd (omega arith)
+last_at o (r ∷ []) d some = refl
+last_at o (r ∷ q ∷ rs) d some = let more = last_at (Some r) (q ∷ rs) d (omega arith) in grind (arith, common_steps)
+
+pub newest : (rs : List Round) (d : Round) → 0 < length rs
+    → is_round_open (last_or None rs) ≡ not (is_complete (get_or rs (length rs - 1) d).matches)
+newest rs d some = rw (last_at None rs d some)
 
 rounds_done : (e : EventValue) → IsSoundButForSeeds e → IsFalse (newest_is_open e)
     → All (λ (r : Round). IsTrue (is_complete r.matches)) e.stored
-rounds_done e sound closed =
-    let done : Round → Type 0 = λ r. IsTrue (is_complete r.matches) in
-    let n = length e.stored - 1 in
-    let last = All-from_recursion done (drop n e.stored) (none_open (drop n e.stored) closed) in
-    rw (take-append-drop n e.stored) at (All-append done (take n e.stored) (drop n e.stored) sound.rounds.earlier_done last)
+rounds_done e sound closed k d below =
+    let early = sound.rounds.earlier_done k d in
+    let last = newest e.stored d (omega arith) in
+    elim (cases_lt k (length e.stored - 1)) [
+      | inl before ↦ grind (arith, common_steps)
+      | inr at ↦ grind (arith, common_steps)
+    ]
 
 -- ---- the round
 

@@ -1,13 +1,12 @@
 -- `Budget` is no refusal of the step: it says that the search for a pairing has too few steps.
-use Rattle.std.proofs.Common.{arith, ◌≡◌, ℕ, Bool, true, false, List, [], ◌∷◌, ◌++◌, Option, Some, None, MatchOption, Result, Ok, Err}
+use Rattle.std.proofs.Common.{arith, ◌≡◌, ℕ, Bool, true, false, List, [], ◌∷◌, ◌++◌, Option, Some, None, Result, Ok, Err}
 use Rattle.std.proofs.{Common.{refl, subst}, lemmas.Grind.common_steps, lemmas.Option.{none-some, same_Some}}
 use Rattle.er_event.specs.{declared.scores.Games.Games, declared.matches.Match.Match, declared.commands.Command.Command}
 use Rattle.er_event.specs.declared.commands.Command.TheVariants.{Enrol, Start, Pair, Correct, Drop, Cut}
 use Rattle.er_event.specs.{declared.refusals.Refusal.Refusal, declared.refusals.Refusal.TheVariants.Budget, Event.EventValue}
 use Rattle.er_event.specs.{Round.match_at, Bracket.slot_at}
 use Rattle.er_rules.specs.Commands.{Check, first_refusal, checks_at, already_reported}
-use Rattle.er_rules.specs.Step.{Answers, Steps, Makes, NeedsMoreSteps, Refuses}
-use Rattle.er_rules.specs.Step.{checks}
+use Rattle.er_rules.specs.Step.{Answers, Steps, StepsBy, NeedsMoreSteps, checks}
 use Rattle.er_event.specs.declared.commands.Command.TheVariants.{Enrol, Start, Pair, Result as ReportResult, Correct, Drop, Cut}
 use Rattle.er_event.specs.declared.commands.Command.TheVariants.{Playoff as PlayOff}
 
@@ -49,8 +48,7 @@ same_Err why w is = cc
 no_step : (e : EventValue) (c : Command) (why : Refusal) → Steps e c (Err why) → is_budget why ≡ false
 no_step e c why steps = by_check (first_refusal (checks e c)) refl steps
   where
-    by_check : (o : Option Refusal) → first_refusal (checks e c) ≡ o → MatchOption o (Makes e c (Err why)) (Refuses (Err why))
-        → is_budget why ≡ false
+    by_check : (o : Option Refusal) → first_refusal (checks e c) ≡ o → StepsBy o e c (Err why) → is_budget why ≡ false
     by_check None is made = grind (arith, common_steps)
     by_check (Some w) is refuses = subst (λ (x : Refusal). is_budget x ≡ false) (same_Err why w refuses)
         (first_of (checks e c) w (no_check e c) is)

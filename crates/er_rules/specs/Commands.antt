@@ -1,8 +1,7 @@
 -- The checks of each command, in order, and what it makes of an event that it is taken on.
-use Rattle.std.specs.Prelude.{ℕ, ◌+◌, ◌-◌, ◌==◌, nat_le, nat_lt, Bool, true, false, ◌&&◌, ◌||◌, not, List, [], ◌∷◌, ◌++◌, length, filter}
-use Rattle.std.specs.Prelude.{find}
-use Rattle.std.specs.Prelude.{drop, option_map, Option, Some, None, is_none}
-use Rattle.std.specs.List.{list_any, list_all}
+use Rattle.std.specs.Prelude.{ℕ, ◌+◌, ◌==◌, nat_le, nat_lt, Bool, true, false, ◌&&◌, ◌||◌, not, List, [], ◌∷◌, ◌++◌, length, filter}
+use Rattle.std.specs.Prelude.{find, option_map, Option, Some, None, is_none}
+use Rattle.std.specs.List.{list_all, last_or}
 use Rattle.er_event.specs.declared.scores.Games.{Games}
 use Rattle.er_event.specs.declared.events.Phase.{Phase}
 use Rattle.er_event.specs.declared.events.Phase.TheVariants.{Enrolling, Swiss, Playoff}
@@ -37,8 +36,13 @@ is_playoff _ = false
 abbrev pub active : EventValue → List Player
 active event = filter (λ p. not p.dropped) event.players
 
+-- of the round, where there is one, a match lacks its score
+abbrev pub is_round_open : Option Round → Bool
+is_round_open None = false
+is_round_open (Some round) = not (is_complete round.matches)
+
 abbrev pub newest_is_open : EventValue → Bool
-newest_is_open event = list_any (λ (r : Round). not (is_complete r.matches)) (drop (length event.stored - 1) event.stored)
+newest_is_open event = is_round_open (last_or None event.stored)
 
 -- all Swiss rounds are paired and complete
 abbrev pub all_rounds_done : EventValue → Bool

@@ -1,5 +1,5 @@
 -- What a command does to an event: it is taken, or refused by the first check that fails.
-use Rattle.std.specs.Prelude.{◌≡◌, ◌⊎◌, ℕ, List, [], ◌∷◌, ◌++◌, None, MatchOption, Result, Ok, Err}
+use Rattle.std.specs.Prelude.{◌≡◌, ◌⊎◌, ℕ, List, [], ◌∷◌, ◌++◌, Option, Some, None, Result, Ok, Err}
 use Rattle.er_event.specs.declared.scores.Games.{Games}
 use Rattle.er_event.specs.declared.commands.Command.{Command}
 use Rattle.er_event.specs.declared.commands.Command.TheVariants.{Enrol, Start, Pair, Result as ReportResult, Correct, Drop, Cut}
@@ -67,12 +67,14 @@ checks event (Drop player) = drop_checks event player
 checks event Cut = cut_checks event
 checks event (PlayOff stage slot score) = playoff_checks event stage slot score
 
-abbrev pub Refuses : Result EventValue Refusal → Refusal → Type 0
-Refuses result why = result ≡ Err why
+-- no check fails, and the command is done, or a check fails, and its refusal is the answer
+abbrev pub StepsBy : Option Refusal → EventValue → Command → Result EventValue Refusal → Type 0
+StepsBy None event command result = Makes event command result
+StepsBy (Some why) event command result = result ≡ Err why
 
 -- the step of the machine
 abbrev pub Steps : EventValue → Command → Result EventValue Refusal → Type 0
-Steps event command result = MatchOption (first_refusal (checks event command)) (Makes event command result) (Refuses result)
+Steps event command result = StepsBy (first_refusal (checks event command)) event command result
 
 -- no check fails, and the search for the round's pairing needs more steps than it may make
 abbrev pub NeedsMoreSteps : EventValue → Command → Type 0

@@ -12,10 +12,12 @@ ghost use Rattle.er_rules.specs.Step.{Answers};
 ghost use Rattle.er_event.specs.Round.{match_of, tables_of};
 
 use er_event::{BYE, Change, Event, Items, MAX_PLAYERS, Match, Phase, Refusal, Score};
+use er_pair::laws::legal_seats;
 use er_pair::{Met, first_pairing, keys, order};
 use std::alloc::{AllocError, Global};
 
 /// Whether a match of the newest round lacks its score.
+#[tactic(auto, using(crate::proofs::Rounds::newest))]
 fn newest_is_open(event: &Event) -> bool
     ensures { result ≡ newest_is_open event.now }
 {
@@ -140,6 +142,7 @@ pub fn decide_pair(
     let order = seeded_order(alloc, event, seed)?;
     let met = Met::of(alloc, event)?;
     let pairs = first_pairing(alloc, order.as_slice(), &met)?;
+    legal_seats();
     let matches = tables_of(alloc, pairs.as_slice())?;
     Ok(Change::AddRound { matches })
 }

@@ -1,9 +1,8 @@
 -- What a few digits are.
 use Rattle.std.proofs.{lemmas.Grind.common_steps, Common.{◌≡◌, ℕ, ◌^◌, ◌<◌, ◌≤◌, nat_le, Bool, true, false, List, [], ◌∷◌, length}}
 use Rattle.std.proofs.Common.{Some, None, Result, Ok, Err, refl, sym, ap, ◌∙◌, arith, lt-ltb, le-leb, le-ltb, leb-true, leb-false}
-use Rattle.std.proofs.{lemmas.Fmt.IsAscii-from_digits, lemmas.Str.IsUtf8-from_ascii}
 use Rattle.std.proofs.lemmas.Str.Parse.{IsNumeralModel, numerals_by_value, parse_digits, digits_value_short}
-use Rattle.std.specs.{Char.is_ascii_digit, List.list_all, Str.IsUtf8, Str.Parse.{digits_value, ParsesUnsigned}, Result.result_ok}
+use Rattle.std.specs.{Char.is_ascii_digit, List.list_all, Str.Parse.{digits_value, ParsesUnsigned}, Result.result_ok}
 use Rattle.er_slips.specs.{declared.request.fields.TheConstants.MAX_BODY, declared.request.wanted.Fault.TheVariants.TooLarge}
 use Rattle.er_slips.specs.Request.{path_number, length_of}
 
@@ -15,9 +14,6 @@ no-digits [] none = refl
 no-digits (c ∷ cs) none = absurd (none (omega arith))
 
 module _ (word : List ℕ) (all : list_all is_ascii_digit word ≡ true) where
-  pub text-of-digits : IsUtf8 word
-  text-of-digits = IsUtf8-from_ascii word (IsAscii-from_digits word (IsNumeralModel.to numerals word all))
-
   module _ (short : length word ≤ 3) where
     fits : digits_value 10 word < 2 ^ 16
     fits = let small : digits_value 10 word < 10 ^ 3 = digits_value_short numerals word 3 all short in omega arith

@@ -1,7 +1,7 @@
 -- What a request asks for, by the checks in their order.
-use Rattle.std.specs.Prelude.{◌≡◌, ◌≤◌, ℕ, ◌==◌, nat_lt, nat_le, Bool, true, false, ◌&&◌, if◌then◌else◌, List, [], ◌∷◌, length, take, drop}
+use Rattle.std.specs.Prelude.{◌≡◌, ◌≤◌, ℕ, ◌==◌, nat_eq, nat_lt, nat_le, Bool, true, false, ◌&&◌, if◌then◌else◌, List, [], ◌∷◌, length, take, drop}
 use Rattle.std.specs.Prelude.{map, filter, Option, Some, None, option_map, option_and_then, Result, Ok, Err, codes}
-use Rattle.std.specs.List.{list_all, list_any}
+use Rattle.std.specs.List.{list_all, list_any, starts_with}
 use Rattle.std.specs.Char.{is_ascii_digit, to_ascii_lowercase}
 use Rattle.std.specs.Str.{bytes_eq}
 use Rattle.std.specs.Str.Parse.{digits_value}
@@ -46,18 +46,23 @@ table_with (Some round) (Some table) = Some (route.Table round table)
 table_with (Some round) None = None
 table_with None table = None
 
+-- what follows this beginning, if the text has it
+abbrev pub behind : (beginning text : List ℕ) → Option (List ℕ)
+behind beginning text = if starts_with nat_eq text beginning then Some (drop (length beginning) text) else None
+
 -- behind `/rounds/`: a round, or a round, `/tables/` and a table
 abbrev pub round_route : List ℕ → Option Route
 round_route rest = option_map route.Round (path_round (before_slash rest))
 
 abbrev pub table_route : List ℕ → Option Route
-table_route rest = table_with (path_round (before_slash rest)) (path_number (drop 8 (after_slash rest)))
+table_route rest =
+    table_with (path_round (before_slash rest)) (option_and_then path_number (behind (codes "/tables/") (after_slash rest)))
 
 abbrev pub route_by : List ℕ → Option Pattern → Option Route
 route_by path None = None
 route_by path (Some pattern.Standings) = Some route.Standings
-route_by path (Some pattern.Round) = round_route (drop 8 path)
-route_by path (Some pattern.Table) = table_route (drop 8 path)
+route_by path (Some pattern.Round) = option_and_then round_route (behind (codes "/rounds/") path)
+route_by path (Some pattern.Table) = option_and_then table_route (behind (codes "/rounds/") path)
 
 abbrev pub route_of : List ℕ → Option Route
 route_of path = route_by path (pattern_of path)

@@ -7,7 +7,6 @@ ghost use Rattle.er_slips.specs.inside.Telling.{IsShort, IsDueUnlessMemory, Tell
 
 mod fields;
 mod head;
-mod numbers;
 mod routes;
 mod wanted;
 

@@ -8,7 +8,7 @@ use Rattle.er_store.proofs.Prelude.{player_shown, by_first, by_first_two, Lists,
 use Rattle.er_store.proofs.Prelude.{table_query, all-map, value_cmp, ◌≢◌, filter, range_with_len, IsPermutation-sym}
 use Rattle.er_store.proofs.Prelude.{IsPermutation-trans, Error, SqliteFailure, IsAscending, Database, one_permutation}
 use Rattle.er_store.proofs.Prelude.{BracketTable, EventTable, PlayerTable, TallyTable, EventValue, Player, Match}
-use Rattle.er_store.proofs.Prelude.{numbers, numbered_from, event_row, player_row, player_rows, bracket_row}
+use Rattle.er_store.proofs.Prelude.{numbers, enumerate_from, event_row, player_row, player_rows, bracket_row}
 use Rattle.er_store.proofs.Prelude.{bracket_rows, tally_row, tally_rows, stage_rows, totals, event_columns, player_columns, bracket_columns}
 use Rattle.er_store.proofs.Prelude.{tally_columns, event_places, bracket_places, tally_places, RepresentsAt, out_of_memory}
 use Rattle.er_store.proofs.Meaning.{columns, read_terms}
@@ -186,7 +186,7 @@ tallies_exact l db e s listed represents numbered h =
 
 slots_rise : (k : ℕ) (ms : List Match) → IsAscending IsBelow (map bracket_columns (stage_rows k ms))
 slots_rise k ms =
-    subst (λ ns. IsAscending IsBelow (map bracket_columns (map (bracket_row k) ns))) (all_kept (numbered_from 1 ms))
+    subst (λ ns. IsAscending IsBelow (map bracket_columns (map (bracket_row k) ns))) (all_kept (enumerate_from 1 ms))
     (tested_rise bracket_columns bracket_row (λ k n. refl) k (λ n. true) (λ n is. refl) 1 ms)
   where
     all_kept : (ns : List (ℕ × Match)) → filter (λ n. true) ns ≡ ns
@@ -203,7 +203,7 @@ pub bracket_exact : (l : Layout) (db : Database) (e : EventValue) (s : ℕ) (lis
     → listed ≡ map bracket_columns (bracket_rows e)
 bracket_exact l db e s listed represents h =
     let stages = e.bracket.stages in
-    let rise = rises_from bracket_columns bracket_row (λ k n. refl) (numbered_from 1) 1 stages (stages_rise stages) in
+    let rise = rises_from bracket_columns bracket_row (λ k n. refl) (enumerate_from 1) 1 stages (stages_rise stages) in
     listed_by_two _ listed (map bracket_columns (bracket_rows e))
     (subst (λ rows. IsAscending IsBelow (map bracket_columns rows)) (sym (bracket_rows_are 1 stages)) rise)
     (represents.has.rows BracketTable) h

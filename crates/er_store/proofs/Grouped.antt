@@ -1,5 +1,5 @@
 -- Rows of rounds or of stages, one after the other, and what is listed of rows that rise.
-use Rattle.er_store.proofs.Prelude.{Match, Round, bracket_rows_from, pairing_rows_from, round_rows, stage_rows, numbered_from, arith, List}
+use Rattle.er_store.proofs.Prelude.{Match, Round, bracket_rows_from, pairing_rows_from, round_rows, stage_rows, enumerate_from, arith, List}
 use Rattle.er_store.proofs.Prelude.{Bool, refl, subst, append-nil, ap₂, false, sym, length, map, ℕ, ap, ◌≡◌, ◌∷◌, ◌+◌, [], ◌∙◌, ◌<◌, ◌++◌}
 use Rattle.er_store.proofs.Prelude.{all-append, common_steps, column, Row, Value, IsAscending, map-append, IsPermutation-sym}
 use Rattle.er_store.proofs.Prelude.{IsPermutation-trans, nat_tests, Less, true, pos, filter, Equal, cond, range_with_len, AllByRecursion}
@@ -41,18 +41,18 @@ bracket_rows_are k (ms ∷ stages) = ap (λ rows. stage_rows k ms ++ rows) (brac
 -- ---- one match more of the newest
 
 numbered_more : {X : Type 0} (row : ℕ × Match → X) (n : ℕ) (ms : List Match) (m : Match)
-    → map row (numbered_from n (ms ++ m ∷ [])) ≡ map row (numbered_from n ms) ++ row (n + length ms, m) ∷ []
+    → map row (enumerate_from n (ms ++ m ∷ [])) ≡ map row (enumerate_from n ms) ++ row (n + length ms, m) ∷ []
 numbered_more row n [] m = let here : n ≡ n + 0 = omega arith in ap (λ k. row (k, m) ∷ []) here
 numbered_more row n (x ∷ ms) m =
     let on : n + 1 + length ms ≡ n + length (x ∷ ms) = omega arith in
-    ap (λ rows. row (n, x) ∷ rows) (numbered_more row (n + 1) ms m ∙ ap (λ k. map row (numbered_from (n + 1) ms) ++ row (k, m) ∷ []) on)
+    ap (λ rows. row (n, x) ∷ rows) (numbered_more row (n + 1) ms m ∙ ap (λ k. map row (enumerate_from (n + 1) ms) ++ row (k, m) ∷ []) on)
 
 pub newest_more : {L X : Type 0} (row : ℕ → ℕ × Match → X) (matches : L → List Match) (all : ℕ → List L → List X)
-    → ((k : ℕ) (ls : List L) → all k ls ≡ rows_from (λ n l. map (row n) (numbered_from 1 (matches l))) k ls) → (ls : List L) (old new : L)
+    → ((k : ℕ) (ls : List L) → all k ls ≡ rows_from (λ n l. map (row n) (enumerate_from 1 (matches l))) k ls) → (ls : List L) (old new : L)
     (m : Match) → matches new ≡ matches old ++ m ∷ []
     → all 1 (ls ++ new ∷ []) ≡ all 1 (ls ++ old ∷ []) ++ row (length ls + 1) (length (matches old) + 1, m) ∷ []
 newest_more row matches all are ls old new m more =
-    grind (arith, common_steps, append_assoc, numbered_from, numbered_more, rows_more, are)
+    grind (arith, common_steps, append_assoc, enumerate_from, numbered_more, rows_more, are)
 
 -- ---- rows that rise by their first columns, and what is listed of them
 
@@ -111,7 +111,7 @@ module _ {X : Type 0} (columns : X → Row) (row : ℕ → ℕ × Match → X)
   module _ (k : ℕ) (test : ℕ × Match → Bool)
       (second : (n : ℕ × Match) → test n ≡ true → column (columns (row k n)) 1 ≡ number_value n.0) where
     abbrev tested : ℕ → List Match → List (ℕ × Match)
-    tested j ms = filter test (numbered_from j ms)
+    tested j ms = filter test (enumerate_from j ms)
 
     pub below_tested : (i j : ℕ) (a : Row) (ms : List Match) → column a 0 ≡ number_value k → column a 1 ≡ number_value i → i < j
         → Below a (map (row k) (tested j ms))

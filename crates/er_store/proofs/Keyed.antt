@@ -2,7 +2,7 @@
 use Rattle.er_store.proofs.Prelude.{if◌then◌else◌, ◌≡◌, ℕ, zero, suc, ◌+◌, ◌-◌, ◌≤◌, ◌==◌, Bool, true, false, cond, List, [], ◌∷◌, ◌++◌}
 use Rattle.er_store.proofs.Prelude.{map, filter, find, length, take, Option, Some, None, option_map, option_to_list, slice_get, All, IfSome}
 use Rattle.er_store.proofs.Prelude.{IsFalse, refl, sym, ap, subst, ◌∙◌, arith, AllByRecursion, All-nil, All-head, All-tail, All-weaker}
-use Rattle.er_store.proofs.Prelude.{nat_tests, Row, column, Match, Round, PairingRow, EventValue, is_bye, numbered_from, is_at, match_in}
+use Rattle.er_store.proofs.Prelude.{nat_tests, Row, column, Match, Round, PairingRow, EventValue, is_bye, enumerate_from, is_at, match_in}
 use Rattle.er_store.proofs.Prelude.{match_at, pairing_row, round_rows, pairing_rows, numbers, IsRound, IsSoundButForSeeds, pairing_columns}
 use Rattle.er_store.proofs.Prelude.{common_steps, not, ◌⊎◌, inl, inr, IsPermutation, IsPermutation-refl, IsPermutation-trans}
 use Rattle.er_store.proofs.Prelude.{IsPermutation-map, recursion_from_All, IsAscending, Database, PairingTable, table_of, pairing_rows_from}
@@ -44,7 +44,7 @@ last_head m n ms h = All-head Seated m (take (length ms) (n ∷ ms)) (bye_last m
 
 -- the matches at this table, of which there is one or none
 one_at_table : (t n : ℕ) (ms : List Match) → 1 ≤ n → ByeLast ms
-    → filter (is_at t) (numbered_from n ms) ≡ option_to_list (find (is_at t) (numbered_from n ms))
+    → filter (is_at t) (enumerate_from n ms) ≡ option_to_list (find (is_at t) (enumerate_from n ms))
 one_at_table (suc t) n ms low last = one_at (suc t) (is_at (suc t)) (table_tells (suc t) (omega arith)) n ms
 one_at_table zero n [] low last = refl
 one_at_table zero n (m ∷ []) low last = grind (arith, nat_tests)
@@ -54,7 +54,7 @@ one_at_table zero n (m ∷ x ∷ xs) low last =
 
 -- the numbered match at this table of the round
 abbrev numbered_in : List Match → ℕ → Option (ℕ × Match)
-numbered_in ms t = find (is_at t) (numbered_from 1 ms)
+numbered_in ms t = find (is_at t) (enumerate_from 1 ms)
 
 -- and that of the round at this place
 abbrev in_rounds : List Round → ℕ → ℕ → Option (ℕ × Match)
@@ -108,8 +108,8 @@ module _ (P : Match → Type 0) (t : ℕ) where
 
 round_permutes : (r : ℕ) (ms : List Match) → IsPermutation (round_rows r ms) (keyed_round_rows r ms)
 round_permutes r ms =
-    IsPermutation-map (pairing_row r) (numbered_from 1 ms) (by_key (numbered_from 1 ms))
-    (IsPermutation-filter_both (λ (n : ℕ × Match). is_bye n.1) (λ (n : ℕ × Match). not (is_bye n.1)) (λ n. refl) (numbered_from 1 ms))
+    IsPermutation-map (pairing_row r) (enumerate_from 1 ms) (by_key (enumerate_from 1 ms))
+    (IsPermutation-filter_both (λ (n : ℕ × Match). is_bye n.1) (λ (n : ℕ × Match). not (is_bye n.1)) (λ n. refl) (enumerate_from 1 ms))
 
 rounds_permute : (r : ℕ) (rounds : List Round) → IsPermutation (pairing_rows_from r rounds) (keyed_rows_from r rounds)
 rounds_permute r [] = IsPermutation-refl []
@@ -135,7 +135,7 @@ bye_table : (round : ℕ) (n : ℕ × Match) → is_bye n.1 ≡ true → column 
 bye_table round n alone = rw alone
 
 abbrev byes : ℕ → List Match → List (ℕ × Match)
-byes n ms = filter (λ (k : ℕ × Match). is_bye k.1) (numbered_from n ms)
+byes n ms = filter (λ (k : ℕ × Match). is_bye k.1) (enumerate_from n ms)
 
 -- a bye, if there is one, and no other
 abbrev AtMostBye : List (ℕ × Match) → Type 0
@@ -148,17 +148,17 @@ one_bye n (m ∷ x ∷ xs) last = let seated = last_head m x xs last in rw seate
 
 -- these are ahead of the tables, and all rise
 abbrev RiseAhead : ℕ → List Match → List (ℕ × Match) → Type 0
-RiseAhead round ms ahead = Rise (map (pairing_row round) (ahead ++ filter is_seated (numbered_from 1 ms)))
+RiseAhead round ms ahead = Rise (map (pairing_row round) (ahead ++ filter is_seated (enumerate_from 1 ms)))
 
 -- a bye's table 0 comes first
 round_rises : (round : ℕ) (ms : List Match) → ByeLast ms → Rise (keyed_round_rows round ms)
 round_rises round ms last = by_byes (one_bye 1 ms last)
   where
-    rises : Rise (map (pairing_row round) (filter is_seated (numbered_from 1 ms)))
+    rises : Rise (map (pairing_row round) (filter is_seated (enumerate_from 1 ms)))
     rises = tested_rise pairing_columns pairing_row (λ k n. refl) round is_seated (table_is round) 1 ms
 
     before : (k : ℕ × Match) → is_bye k.1 ≡ true → AllByRecursion (IsBelow (pairing_columns (pairing_row round k)))
-        (map pairing_columns (map (pairing_row round) (filter is_seated (numbered_from 1 ms))))
+        (map pairing_columns (map (pairing_row round) (filter is_seated (enumerate_from 1 ms))))
     before k alone =
         below_tested pairing_columns pairing_row (λ k n. refl) round is_seated (table_is round) 0 1
         (pairing_columns (pairing_row round k)) ms
@@ -185,7 +185,7 @@ pub pairings_exact : (l : Layout) (db : Database) (e : EventValue) (s : ℕ) (li
     → listed ≡ map pairing_columns (keyed_pairing_rows e)
 pairings_exact l db e s listed represents sound h =
     let last = recursion_from_All (λ (r : Round). ByeLast r.matches) e.stored (all_bye_last e sound) in
-    let rise = rises_from pairing_columns pairing_row (λ k n. refl) (λ (r : Round). by_key (numbered_from 1 r.matches)) 1 e.stored
+    let rise = rises_from pairing_columns pairing_row (λ k n. refl) (λ (r : Round). by_key (enumerate_from 1 r.matches)) 1 e.stored
     (rounds_rise e.stored last) in
     listed_by_two _ listed (map pairing_columns (keyed_pairing_rows e))
     (subst Rise (sym (keyed_rows_are 1 e.stored)) rise) (IsPermutation-trans _ _ _ (represents.has.rows PairingTable) (keyed_permutes e)) h

@@ -74,7 +74,8 @@ looks_call q look kept = record {
 }
 
 -- what a call that went well says of one that gives back something else
-pub still_ok : {A E B F : Type 0} {old new : State} {x : A} {y : B} → Call {A = A} {E = E} old (Ok x) new → Call {A = B} {E = F} old (Ok y) new
+pub still_ok : {A E B F : Type 0} {old new : State} {x : A} {y : B} → Call {A = A} {E = E} old (Ok x) new
+    → Call {A = B} {E = F} old (Ok y) new
 still_ok call = record { clean = call.clean; limit = call.limit; kept = λ clean. tt }
 
 -- ---- a transaction was begun on a connection that is lent, and one step was done in it

@@ -3,7 +3,7 @@ use Rattle.er_store.proofs.Prelude.{table_of, common_steps, ◌≡◌, ◌≢◌
 use Rattle.er_store.proofs.Prelude.{List, [], ◌∷◌, ◌++◌, map, filter, find, take, length, Option, Some, None, option_map, All, IsTrue, refl}
 use Rattle.er_store.proofs.Prelude.{sym, ap, ap₂, subst, ◌∙◌, arith, append-nil, true≢false, AllByRecursion, nat_tests, map-append}
 use Rattle.er_store.proofs.Prelude.{filter-append, All-from_recursion, all-append, all-map, Match, Round, TallyRow, Totals, EventValue}
-use Rattle.er_store.proofs.Prelude.{is_bye, numbered_from, bye_score, numbers, IsSoundButForSeeds, meetings, totals, MeetingRow}
+use Rattle.er_store.proofs.Prelude.{is_bye, enumerate_from, bye_score, numbers, IsSoundButForSeeds, meetings, totals, MeetingRow}
 use Rattle.er_store.proofs.Prelude.{meeting_rows, is_outside, complete_rows, sides_in, sides_of, filter_all, ◌&&◌, flat_map, Contains}
 use Rattle.er_store.proofs.Prelude.{Greater, Null}
 use Rattle.er_store.proofs.Prelude.{list_all, Int, Binary, Database, is_true, Row, column, overlay, or_nulls, IsAnswer, Output, output}
@@ -41,7 +41,7 @@ IsWon m = IsTrue (is_bye m) → m.score ≡ Some bye_score
 
 -- the pairs among these matches, each with its number
 abbrev pub pairs_from : ℕ → List Match → List (ℕ × Match)
-pairs_from j ms = filter is_pair_at (numbered_from j ms)
+pairs_from j ms = filter is_pair_at (enumerate_from j ms)
 
 int-same : (z : ℤ) → int_eq z z ≡ true
 int-same z = (Decides-int_eq z z).1 refl
@@ -341,7 +341,7 @@ module _ (l : Layout) (db : Database) (e : EventValue) (s : ℕ) (represents : R
   mates_of-append xs ys = grind (arith, common_steps)
 
   round-mates : (k j : ℕ) (ms : List Match) → All (IsMatch (numbers e.players)) ms
-      → mates_of (map pairing_columns (map (pairing_row k) (numbered_from j ms))) ≡ map meeting_columns (rows_of (totals e) k j ms)
+      → mates_of (map pairing_columns (map (pairing_row k) (enumerate_from j ms))) ≡ map meeting_columns (rows_of (totals e) k j ms)
   round-mates k j [] are = refl
   round-mates k j (m ∷ ms) are =
       let one = are 0 m (omega arith) in

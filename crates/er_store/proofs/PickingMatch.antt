@@ -5,7 +5,7 @@ use Rattle.er_store.proofs.Prelude.{bracket_columns, common_steps, ◌||◌, ◌
 use Rattle.er_store.proofs.Prelude.{◌++◌, ◌+◌, ap₂, filter, ◌≤◌, Some, ◌≢◌, ◌<◌, None, Option, suc, ◌==◌, not, All, zero, ◌-◌}
 use Rattle.er_store.proofs.Prelude.{if◌then◌else◌, append-nil, ◌&&◌, option_map, IfSome, find, option_to_list, ne_eqb, nat_tests}
 use Rattle.er_store.proofs.Prelude.{map-append, All-head, All-tail, filter-append, none-some, same_Some, IsPermutation, is_eq, slot_at}
-use Rattle.er_store.proofs.Prelude.{with_slot_score, with_score, EventValue, numbered_from, is_bye, table_of, match_at, is_at, match_in}
+use Rattle.er_store.proofs.Prelude.{with_slot_score, with_score, EventValue, enumerate_from, is_bye, table_of, match_at, is_at, match_in}
 use Rattle.er_store.proofs.Prelude.{pairing_rows, pairing_rows_from, bracket_rows_from, bracket_rows, Match, Round, Games, Binary}
 use Rattle.er_store.proofs.Prelude.{from_truth, Row, column, value_cmp, filter_same, Compare, Eq, ToNumeric, filter-map, map-map}
 use Rattle.er_store.proofs.Prelude.{◌≡◌, ℕ}
@@ -29,27 +29,27 @@ equal n k = grind (arith, common_steps, from_truth, is_eq, is_true, numbers_equa
 -- ---- the matches of a group, a round or a stage, of which one number tells which pass a test
 
 module _ (t : ℕ) (at : ℕ × Match → Bool) (tells : (n : ℕ × Match) → at n ≡ true → n.0 ≡ t) where
-  none_later : (n : ℕ) (ms : List Match) → t < n → filter at (numbered_from n ms) ≡ []
+  none_later : (n : ℕ) (ms : List Match) → t < n → filter at (enumerate_from n ms) ≡ []
   none_later n [] low = refl
   none_later n (m ∷ ms) low = grind (arith, nat_tests, tells (n, m), none_later (n + 1) ms (omega arith))
 
-  pub one_at : (n : ℕ) (ms : List Match) → filter at (numbered_from n ms) ≡ option_to_list (find at (numbered_from n ms))
+  pub one_at : (n : ℕ) (ms : List Match) → filter at (enumerate_from n ms) ≡ option_to_list (find at (enumerate_from n ms))
   one_at n [] = refl
-  one_at n (m ∷ ms) = grind (arith, common_steps, nat_tests, none_later, numbered_from, one_at (n + 1) ms)
+  one_at n (m ∷ ms) = grind (arith, common_steps, nat_tests, none_later, enumerate_from, one_at (n + 1) ms)
 
 -- those of a group, of which those that pass have this score
 abbrev again : (ℕ × Match → Bool) → Games → ℕ → List Match → List Match
-again at s n ms = map (λ (x : ℕ × Match). if at x then match_with_score s x.1 else x.1) (numbered_from n ms)
+again at s n ms = map (λ (x : ℕ × Match). if at x then match_with_score s x.1 else x.1) (enumerate_from n ms)
 
 -- ---- the matches of some groups, each with the number of its group
 
 abbrev placed : {L : Type 0} → (L → List Match) → ℕ → List L → List (ℕ × (ℕ × Match))
-placed matches = rows_from (λ j l. map (λ n. (j, n)) (numbered_from 1 (matches l)))
+placed matches = rows_from (λ j l. map (λ n. (j, n)) (enumerate_from 1 (matches l)))
 
 rows_placed : {L X : Type 0} (matches : L → List Match) (row : ℕ → ℕ × Match → X) (j : ℕ) (ls : List L)
-    → map (λ x. row x.0 x.1) (placed matches j ls) ≡ rows_from (λ n l. map (row n) (numbered_from 1 (matches l))) j ls
+    → map (λ x. row x.0 x.1) (placed matches j ls) ≡ rows_from (λ n l. map (row n) (enumerate_from 1 (matches l))) j ls
 rows_placed matches row j [] = refl
-rows_placed matches row j (l ∷ ls) = grind (arith, common_steps, map-append, map-map, numbered_from, rows_placed matches row (j + 1) ls)
+rows_placed matches row j (l ∷ ls) = grind (arith, common_steps, map-append, map-map, enumerate_from, rows_placed matches row (j + 1) ls)
 
 module _ {L : Type 0} (matches : L → List Match) (at : ℕ × Match → Bool) (k : ℕ) where
   abbrev picked : ℕ × (ℕ × Match) → Bool
@@ -69,11 +69,11 @@ module _ {L : Type 0} (matches : L → List Match) (at : ℕ × Match → Bool) 
 
   abbrev pub passing : Option L → List (ℕ × Match)
   passing None = []
-  passing (Some l) = filter at (numbered_from 1 (matches l))
+  passing (Some l) = filter at (enumerate_from 1 (matches l))
 
   one_group : (j i : ℕ) (ls : List L) → k ≡ j + i → filter picked (placed matches j ls) ≡ map (λ n. (k, n)) (passing (slice_get ls i))
   one_group j i [] is = refl
-  one_group j zero (l ∷ ls) is = grind (arith, common_steps, append-nil, filter-append, later_groups, numbered_from, own_group)
+  one_group j zero (l ∷ ls) is = grind (arith, common_steps, append-nil, filter-append, later_groups, enumerate_from, own_group)
   one_group j (suc i) (l ∷ ls) is = grind (arith, common_steps, filter-append, other_group, one_group (j + 1) i ls (omega arith))
 
   -- ---- a score for those
@@ -83,7 +83,7 @@ module _ {L : Type 0} (matches : L → List Match) (at : ℕ × Match → Bool) 
     changed x = (x.0, (x.1.0, if picked x then match_with_score s x.1.1 else x.1.1))
 
     own_changed : (n : ℕ) (ms : List Match)
-        → map changed (map (λ m. (k, m)) (numbered_from n ms)) ≡ map (λ m. (k, m)) (numbered_from n (again at s n ms))
+        → map changed (map (λ m. (k, m)) (enumerate_from n ms)) ≡ map (λ m. (k, m)) (enumerate_from n (again at s n ms))
     own_changed n [] = refl
     own_changed n (m ∷ ms) = grind (arith, nat_tests, own_changed (n + 1) ms)
 
@@ -93,7 +93,7 @@ module _ {L : Type 0} (matches : L → List Match) (at : ℕ × Match → Bool) 
 
     later_same : (j : ℕ) (ls : List L) → k < j → map changed (placed matches j ls) ≡ placed matches j ls
     later_same j [] low = refl
-    later_same j (l ∷ ls) low = grind (arith, common_steps, map-append, numbered_from, other_same, later_same (j + 1) ls (omega arith))
+    later_same j (l ∷ ls) low = grind (arith, common_steps, map-append, enumerate_from, other_same, later_same (j + 1) ls (omega arith))
 
     set_group : (j i : ℕ) (ls : List L) (was is : L) → k ≡ j + i → slice_get ls i ≡ Some was → matches is ≡ again at s 1 (matches was)
         → map changed (placed matches j ls) ≡ placed matches j (set ls i is)
@@ -101,7 +101,7 @@ module _ {L : Type 0} (matches : L → List Match) (at : ℕ × Match → Bool) 
     set_group j zero (l ∷ ls) was is here found new =
         let own : j ≡ k = omega arith in
         let same : l ≡ was = same_Some l was found in
-        map-append changed (map (λ n. (j, n)) (numbered_from 1 (matches l))) (placed matches (j + 1) ls)
+        map-append changed (map (λ n. (j, n)) (enumerate_from 1 (matches l))) (placed matches (j + 1) ls)
         ∙ ap₂ ◌++◌ (rw (own, new, same) (own_changed 1 (matches was))) (later_same (j + 1) ls (omega arith))
     set_group j (suc i) (l ∷ ls) was is here found new =
         grind (arith, common_steps, map-append, other_same, set_group (j + 1) i ls was is (omega arith) found new)
@@ -136,7 +136,7 @@ module _ {L : Type 0} (matches : L → List Match) (row : ℕ → ℕ × Match �
       (placed matches 1 ls) ∙ found_at ls) ∙ map-map (λ x. row x.0 x.1) (λ n. (k, n)) (passing matches at k (place ls))
 
   pub picks_match : (s : Games) (ls : List L) (was is : L) (it : ℕ × Match) → 1 ≤ k → slice_get ls (k - 1) ≡ Some was
-      → at it ≡ true → filter at (numbered_from 1 (matches was)) ≡ it ∷ [] → matches is ≡ again at s 1 (matches was)
+      → at it ≡ true → filter at (enumerate_from 1 (matches was)) ≡ it ∷ [] → matches is ≡ again at s 1 (matches was)
       → Picks (row k) k t s (shown ls) (shown (set ls (k - 1) is))
   picks_match s ls was is it low found passes alone new =
       let after : ℕ × (ℕ × Match) → Row = λ x. row x.0 (x.1.0, if picked matches at k x then match_with_score s x.1.1 else x.1.1) in
@@ -163,11 +163,11 @@ module _ (P : Match → Type 0) (at : ℕ × Match → Bool) where
   abbrev pub Finds : ℕ × Match → Type 0
   Finds n = P n.1 × (at n ≡ true) × (1 ≤ n.0)
 
-  pub found_in : (n : ℕ) (ms : List Match) → 1 ≤ n → All P ms → IfSome (find at (numbered_from n ms)) Finds
+  pub found_in : (n : ℕ) (ms : List Match) → 1 ≤ n → All P ms → IfSome (find at (enumerate_from n ms)) Finds
   found_in n [] low all = tt
   found_in n (m ∷ ms) low all =
       let more = found_in (n + 1) ms (omega arith) (All-tail P m ms all) in
-      (elim (at (n, m)) as (λ b. at (n, m) ≡ b → IfSome (if b then Some (n, m) else find at (numbered_from (n + 1) ms)) Finds) [
+      (elim (at (n, m)) as (λ b. at (n, m) ≡ b → IfSome (if b then Some (n, m) else find at (enumerate_from (n + 1) ms)) Finds) [
         | true ↦ λ is. (All-head P m ms all, is, low)
         | false ↦ λ is. more
       ]) refl
@@ -205,10 +205,10 @@ picks_one_table e k t s m found seat =
     let group = not_none (k == 0) _ m found in
     let low : 1 ≤ k = grind (arith, nat_tests, group.0) in
     option_and_then_some (λ (r : Round). match_in r.matches t) (slice_get e.stored (k - 1)) m group.1 (λ r is here.
-    by_found r is (find (is_at t) (numbered_from 1 r.matches)) refl here
+    by_found r is (find (is_at t) (enumerate_from 1 r.matches)) refl here
     (found_in (λ m. Unit) (is_at t) 1 r.matches (omega arith) (λ i d below. tt)) low)
   where
-    by_found : (r : Round) → slice_get e.stored (k - 1) ≡ Some r → (o : Option (ℕ × Match)) → find (is_at t) (numbered_from 1 r.matches) ≡ o
+    by_found : (r : Round) → slice_get e.stored (k - 1) ≡ Some r → (o : Option (ℕ × Match)) → find (is_at t) (enumerate_from 1 r.matches) ≡ o
         → option_map (λ (n : ℕ × Match). n.1) o ≡ Some m → IfSome o (Finds (λ m. Unit) (is_at t)) → 1 ≤ k → PicksTable e k t s
     by_found r is None at here finds low = absurd (none-some m here)
     by_found r is (Some it) at here finds low =
@@ -232,7 +232,7 @@ module _ (t : ℕ) (s : Games) where
   slot_tells n at = grind (arith, nat_tests)
 
   slot_found : (n i : ℕ) (ms : List Match) (m : Match) → t ≡ n + i → slice_get ms i ≡ Some m
-      → find has_slot (numbered_from n ms) ≡ Some (t, m)
+      → find has_slot (enumerate_from n ms) ≡ Some (t, m)
   slot_found n i [] m at is = absurd (none-some m is)
   slot_found n zero (x ∷ ms) m at is = let here : n ≡ t = omega arith in rw (same_number n t here, same_Some x m is, here) refl
   slot_found n (suc i) (x ∷ ms) m at is = rw (ne_eqb n t (λ e. absurd (omega arith))) (slot_found (n + 1) i ms m (omega arith) is)

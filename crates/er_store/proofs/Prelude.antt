@@ -16,6 +16,7 @@ pub use Rattle.std.proofs.lemmas.List.Sorted.{IsPermutation-refl}
 pub use Rattle.std.proofs.lemmas.Option.{same_Some, none-some}
 pub use Rattle.std.proofs.lemmas.Result.{on_ok_weaker, IfErr-weaker, IfOk-weaker}
 pub use Rattle.std.specs.List.{AllByRecursion, range_with_len, list_all}
+pub use Rattle.std.specs.List.{enumerate_from}
 pub use Rattle.std.specs.List.Sorted.{IsPermutation}
 pub use Rattle.std.specs.Ordering.{is_eq, ordering_then}
 pub use Rattle.std.specs.Prelude.{IsUtf8}
@@ -24,7 +25,7 @@ pub use Rattle.er_event.specs.Change.{after, with_round, with_slot_score, with_s
 pub use Rattle.er_event.specs.Change.{with_score, new_player}
 pub use Rattle.er_event.specs.Event.{EventValue}
 pub use Rattle.er_event.specs.Name.{is_lawful_name}
-pub use Rattle.er_event.specs.Round.{is_bye, numbered_from, match_at, table_of, is_at, seats, match_in}
+pub use Rattle.er_event.specs.Round.{is_bye, match_at, table_of, is_at, seats, match_in}
 pub use Rattle.er_event.specs.Rows.{pairing_row, tally_rows, tally_row, pairing_rows_from, pairing_rows, bracket_row, round_rows}
 pub use Rattle.er_event.specs.Rows.{player_row, bracket_rows_from, tally_rows_by, bracket_rows, stage_rows, player_rows, flag, event_row}
 pub use Rattle.er_event.specs.Score.{bye_score}

@@ -9,7 +9,7 @@ use Rattle.er_store.proofs.Prelude.{tally_rows_by, numbers, Layout, IsOther, Mov
 use Rattle.std.proofs.lemmas.List.{get_or-map}
 use Rattle.er_event.specs.{declared.changes.Change.Change, declared.changes.Change.TheVariants.AddPlayer}
 use Rattle.er_event.specs.declared.{players.TheConstants.MAX_PLAYERS, events.Phase.TheVariants.Enrolling}
-use Rattle.er_event.specs.{Recounted.{Recounting, includes}, Totals.{AreTotals, Gathered, gathered_of}}
+use Rattle.er_event.specs.Totals.{AreTotals, Gathered, gathered_of}
 use Rattle.er_store.proofs.Prelude.{All, IsFalse}
 use Rattle.er_store.proofs.Picking.{within, numbers-dropped_at}
 
@@ -144,21 +144,6 @@ pub totals-at : (e : EventValue) (ps : List Player) (all : Gathered) → AreTota
     → p ≡ get_or ps k p
     → gathered_of all p ≡ totals e p.no
 totals-at e ps all are k p below is = subst (λ (q : Player). gathered_of all q ≡ totals e q.no) (sym is) (are k p below)
-
-module _ (e : EventValue) (now before : ℕ → Totals) (r : Recounting)
-    (others : All (λ (p : Player). IsFalse (includes r p) → now p.no ≡ before p.no) e.players) where
-  pub others-at : (k : ℕ) (p : Player) → k < length e.players → p ≡ get_or e.players k p → IsFalse (includes r p) → now p.no ≡ before p.no
-  others-at k p below is = subst (λ (q : Player). IsFalse (includes r q) → now q.no ≡ before q.no) (sym is) (others k p below)
-
-  -- those of all, where nothing counts anew
-  pub none-set : (r.matches ≡ []) × (r.completed ≡ 0) → IsSoundButForSeeds e → (q : ℕ) → 1 ≤ q → q ≤ length e.players → before q ≡ now q
-  none-set none sound q low high =
-      let p = get_or e.players (q - 1) nobody in
-      let within : q - 1 < length e.players = omega arith in
-      let number = number-at e sound (q - 1) nobody within in
-      let no : p.no ≡ q = omega arith in
-      let left : IsFalse (includes r p) = rw (none.0, none.1) refl in
-      sym (rw no at (others (q - 1) nobody within left))
 
 -- ---- the players after a change
 

@@ -73,8 +73,8 @@ pub record IsNotCreated {S : Type 0} (g : Ghosts S) (v : ℕ) (e : EventValue) (
       (Either old.may_leave (IsStoredBeside v e old.now))
 
 -- A creation: the tables are made in this version, or the connection comes back.
-pub record Creates {S : Type 0} (g : Ghosts S) (version : ℕ) (e : EventValue) (conn : Held S) (result : Result (Store S g) (Held S × Refusal))
-    : Type 0 where
+pub record Creates {S : Type 0} (g : Ghosts S) (version : ℕ) (e : EventValue) (conn : Held S)
+    (result : Result (Store S g) (Held S × Refusal)) : Type 0 where
   pub call : Call (held_state g conn) result (left_state g (λ made. store_state g made) result)
   pub made : MatchResult result (IsCreated g version e (held_state g conn)) (IsNotCreated g version e (held_state g conn))
 
@@ -119,6 +119,7 @@ pub record IsNotAdopted {S : Type 0} (g : Ghosts S) (old : State) (left : Held S
   pub crash : AfterCrash (held_state g left.0) old.may_leave
 
 -- An opening: the event is found, or the connection comes back.
-pub record Adopts {S : Type 0} (g : Ghosts S) (conn : Held S) (result : Result (Store S g × EventValue × ℕ) (Held S × Refusal)) : Type 0 where
+pub record Adopts {S : Type 0} (g : Ghosts S) (conn : Held S)
+    (result : Result (Store S g × EventValue × ℕ) (Held S × Refusal)) : Type 0 where
   pub call : Call (held_state g conn) result (left_state g (λ it. store_state g it.0) result)
   pub found : MatchResult result (IsAdopted g (held_state g conn)) (IsNotAdopted g (held_state g conn))

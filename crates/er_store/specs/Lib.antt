@@ -9,7 +9,9 @@
 -- Begins is how a store begins, over tables that are made or that are there, and Calls what a call of it does: the records that the
 -- contracts of Store are made of.
 --
--- What private functions alone cite lies in `inside`.
+-- What private functions alone cite lies in `inside`. In the words of the field: `Represents` is the abstraction relation, and
+-- `AfterCrash` the crash condition. Of a step in a transaction `Lends` is the frame, what it leaves alone however it ends, `Achieves` the
+-- postcondition on a clean disk, and `Brings` a step of the refinement: from tables of one event to tables of the next.
 --
 -- Which contract carries it:
 --   `Store::create`, by `Creates`: the five tables beside whatever stands in the file, which stays as it was. They represent the new event

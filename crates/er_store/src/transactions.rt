@@ -10,10 +10,9 @@ ghost use Rattle.er_event.specs.Change.{after, with_player, with_dropped, with_r
 ghost use Rattle.er_event.specs.Bracket.{slot_at};
 ghost use Rattle.er_event.specs.declared.players.TheConstants.{MAX_PLAYERS};
 ghost use Rattle.er_event.specs.declared.totals.Totals.{Totals};
-ghost use Rattle.er_event.specs.Recounted.{includes};
 ghost use Rattle.er_event.specs.Rows.{tally_row, tally_rows_by};
 ghost use Rattle.er_event.specs.Sound.{numbers};
-ghost use Rattle.er_event.specs.Totals.{totals, gathered_of};
+ghost use Rattle.er_event.specs.Totals.{totals};
 ghost use Rattle.er_event.specs.Version.{CanTake, IsVersion, Keeps};
 ghost use Rattle.er_store.specs.inside.Totals.{set_for};
 ghost use Rattle.er_event.specs.declared.matches.Match.{Match};
@@ -36,8 +35,8 @@ use crate::statements::{
 use crate::tables::TableRow;
 use er_event::laws::{events_are_sound, others_keep_totals};
 use er_event::{
-    AllTotals, BracketRow, Change, Event, EventRow, Items, Match, PairingRow, Phase, Player,
-    PlayerNo, Recount, Score, TallyRow, Totals,
+    BracketRow, Change, Event, EventRow, Items, Match, PairingRow, Phase, Player, PlayerNo, Score,
+    TallyRow, Totals,
 };
 use sqlite::{Alter, Connection, Error, Transaction};
 
@@ -215,25 +214,26 @@ fn set_totals<S: Alter>(
     set_tally(tx, &row)
 }
 
-/// Sets the totals of one player of the event to those among all of them, where they count anew.
+/// Sets the totals of one player of the event to those after the change, if they differ or a match of the player is corrected.
 fn recount_one<S: Alter>(
     tx: &mut Transaction<'_, S>,
-    recount: &Recount<'_>,
-    all: &AllTotals,
+    event: &Event,
+    change: &Change,
     player: &Player,
+    totals: (Totals, Totals),
 ) -> Result<(), Error>
     ensures lends { Lends S.Store tx.old tx.new }
     ensures makes { (l : Layout) (e : EventValue) (before : ℕ → Totals)
         → HasPlayer e player.now.no
-        → (IsFalse (includes recount.now player.now)
-        → before player.now.no ≡ gathered_of all.now player.now)
+        → before player.now.no ≡ totals.0
         → Moves l (tx_state S.Store tx.old) (tx_state S.Store tx.old)
         → Counts S.Store l e (tally_rows_by before e.players)
-        (tally_rows_by (set_for player.now.no (gathered_of all.now player.now) before) e.players)
+        (tally_rows_by (set_for player.now.no totals.1 before) e.players)
         tx.old result tx.new }
 {
-    if recount.includes(player) {
-        set_totals(tx, player.no, all.of(player))?;
+    let (before, now) = totals;
+    if now != before || event.corrects(change, player.no) {
+        set_totals(tx, player.no, now)?;
     }
     Ok(())
 }
@@ -252,13 +252,19 @@ fn recount<S: Alter>(
         (tally_rows_by (totals (after event.now change.now)) e.players) tx.old result tx.new }
 {
     let players = event.players();
-    let recount = event.recount_of(change);
-    if recount.is_empty() {
+    if !event.may_alter_totals(change) {
         return Ok(());
     }
-    let all = event.all_totals_after(change);
+    let before = event.all_totals();
+    let now = event.all_totals_after(change);
     for player in players {
-        recount_one(tx, &recount, &all, player)?;
+        recount_one(
+            tx,
+            event,
+            change,
+            player,
+            (before.of(player), now.of(player)),
+        )?;
     }
     Ok(())
 }

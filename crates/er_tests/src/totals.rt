@@ -111,33 +111,32 @@ fn a_round_counts_once_it_is_complete(rt: HostRuntime) -> Result<(), Fail> {
     Ok(())
 }
 
-/// Whether a change sets the totals of just these players, by number, if it fits.
-fn sets(event: &Event, change: &Change, expected: &[bool]) -> Option<bool> {
+/// Whether a change may alter totals, and corrects a match of just these players, by number, if it fits.
+fn alters(event: &Event, change: &Change, corrected: &[bool]) -> Option<bool> {
     if event.fits(change) {
-        let recount = event.recount_of(change);
-        let each = event
-            .players()
-            .iter()
-            .zip(expected)
-            .all(|(player, is_set)| recount.includes(player) == *is_set);
-        Some(each && event.players().len() == expected.len())
+        let each = event.players().iter().zip(corrected).all(|(
+            player,
+            is_corrected,
+        )| event.corrects(change, player.no) == *is_corrected);
+        let all = event.players().len() == corrected.len();
+        Some(each && all && event.may_alter_totals(change))
     } else {
         None
     }
 }
 
 /// Whether a score of a table of the first round does.
-fn score_sets(event: &Event, table: u16, games: Games, expected: &[bool]) -> Option<bool> {
+fn score_alters(event: &Event, table: u16, games: Games, corrected: &[bool]) -> Option<bool> {
     let score = Score::swiss(games)?;
     let change = Change::SetScore {
         round: 1,
         table,
         score,
     };
-    sets(event, &change, expected)
+    alters(event, &change, corrected)
 }
 
-/// Whether the fifth has missed the round that the result of its second table completes. It sets the totals of all five.
+/// Whether the fifth has missed the round that the result of its second table completes. It corrects nobody's match.
 fn fifth_misses_it(event: &Event) -> Option<bool> {
     let after = [
         totals(3, 1, 6, 3),
@@ -149,7 +148,7 @@ fn fifth_misses_it(event: &Event) -> Option<bool> {
     let won = Games { x: 2, y: 1, d: 0 };
     let is_late = event.players().last()?.joined == 1;
     let is_open = come_to(event, &[totals(0, 0, 0, 0); 5]);
-    let counts = come_to_after(event, 2, won, &after)? && score_sets(event, 2, won, &[true; 5])?;
+    let counts = come_to_after(event, 2, won, &after)? && score_alters(event, 2, won, &[false; 5])?;
     Some(is_late && is_open && counts)
 }
 
@@ -164,10 +163,10 @@ fn fifth_comes_to(event: &Event) -> Option<Totals> {
     totals_after(event, &player("Ed")?, player_at(4)?)
 }
 
-/// Whether a correction of the second table sets the totals of its two players alone, and the fifth has missed the round.
+/// Whether a correction of the second table corrects a match of its two players only, and the fifth has missed the round.
 fn fifth_stays(event: &Event) -> Option<bool> {
     let corrected = Games { x: 0, y: 2, d: 0 };
-    let is_set = score_sets(event, 2, corrected, &[true, false, true, false, false])?;
+    let is_set = score_alters(event, 2, corrected, &[true, false, true, false, false])?;
     Some(is_set && event.totals(player_at(4)?) == totals(0, 1, 0, 0))
 }
 

@@ -346,8 +346,6 @@ pub fn read_words(alloc: Global, words: &[String]) -> Result<Line, LineFault>
     ensures { ReadsWords (map string_bytes words.now) result }
 {
     refuse_option(words)?;
-    let Some((name, values)) = split_words(alloc, words)? else {
-        return Err(LineFault::Usage(UsageFault::UnknownSubcommand));
-    };
+    let (name, values) = split_words(alloc, words)?.ok_or(UsageFault::UnknownSubcommand)?;
     read_named(alloc, name, &values)
 }

@@ -60,13 +60,11 @@ pub fn small_number<'a, 'b>(
         (map (λ word. word.now) words.now) result }
 {
     let (word, rest) = text(words, place)?;
-    match small_number_of(word) {
-        Some(number) => Ok((number, rest)),
-        None => Err(UsageFault::BadNumber {
-            place,
-            most: u16::from(u8::MAX),
-        }),
-    }
+    let number = small_number_of(word).ok_or(UsageFault::BadNumber {
+        place,
+        most: u16::from(u8::MAX),
+    })?;
+    Ok((number, rest))
 }
 
 /// The number from 0 to 65,535 that the first of the words is.
@@ -78,13 +76,11 @@ pub fn number<'a, 'b>(
         (map (λ word. word.now) words.now) result }
 {
     let (word, rest) = text(words, place)?;
-    match number_of(word) {
-        Some(number) => Ok((number, rest)),
-        None => Err(UsageFault::BadNumber {
-            place,
-            most: u16::MAX,
-        }),
-    }
+    let number = number_of(word).ok_or(UsageFault::BadNumber {
+        place,
+        most: u16::MAX,
+    })?;
+    Ok((number, rest))
 }
 
 /// The seed that the first of the words is.
@@ -95,10 +91,8 @@ pub fn seed<'a, 'b>(
     ensures { Takes seed_of (BadSeed place) place (map (λ word. word.now) words.now) result }
 {
     let (word, rest) = text(words, place)?;
-    match seed_of(word) {
-        Some(seed) => Ok((seed, rest)),
-        None => Err(UsageFault::BadSeed { place }),
-    }
+    let seed = seed_of(word).ok_or(UsageFault::BadSeed { place })?;
+    Ok((seed, rest))
 }
 
 /// The number of connections that the first of the words is.
@@ -106,10 +100,8 @@ pub fn count<'a, 'b>(words: &'b [&'a str], place: usize) -> Result<(u32, &'b [&'
     ensures { Takes count_of (BadCount place) place (map (λ word. word.now) words.now) result }
 {
     let (word, rest) = text(words, place)?;
-    match count_of(word) {
-        Some(count) => Ok((count, rest)),
-        None => Err(UsageFault::BadCount { place }),
-    }
+    let count = count_of(word).ok_or(UsageFault::BadCount { place })?;
+    Ok((count, rest))
 }
 
 /// The kind of list that the first of the words names.
@@ -120,10 +112,8 @@ pub fn list_kind<'a, 'b>(
     ensures { Takes kind_of (BadKind place) place (map (λ word. word.now) words.now) result }
 {
     let (word, rest) = text(words, place)?;
-    match kind_of(word) {
-        Some(kind) => Ok((kind, rest)),
-        None => Err(UsageFault::BadKind { place }),
-    }
+    let kind = kind_of(word).ok_or(UsageFault::BadKind { place })?;
+    Ok((kind, rest))
 }
 
 /// There is no word at this place.

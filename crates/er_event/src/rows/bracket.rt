@@ -90,9 +90,7 @@ fn read_match(stage: u8, slot: usize, row: &BracketRow) -> Option<Match>
     ensures exact { (m : Match) → FitsSlotRow m → row.now ≡ bracket_row stage (slot, m)
         → result ≡ Some m }
 {
-    let Some(played) = possible_match(row) else {
-        return None;
-    };
+    let played = possible_match(row)?;
     if BracketRow::of(stage, slot, &played) == *row {
         Some(played)
     } else {

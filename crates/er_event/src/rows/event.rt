@@ -97,22 +97,12 @@ fn read_row(row: &EventRow) -> Result<Setup, PartsFault>
     if row.id != 1 || !is_serial(row.serial) {
         return Err(DAMAGED);
     }
-    let Some(version) = small_of(row.version) else {
-        return Err(DAMAGED);
-    };
-    let Some(most) = most_rounds(version) else {
-        return Err(DAMAGED);
-    };
-    let (Some(rounds), Some(cut), Some(phase)) = (
-        small_of(row.rounds),
-        small_of(row.cut),
-        phase_of(row.phase),
-    ) else {
-        return Err(DAMAGED);
-    };
-    let Ok(name) = Name::try_from_bytes(row.name.as_slice()) else {
-        return Err(DAMAGED);
-    };
+    let version = small_of(row.version).ok_or(DAMAGED)?;
+    let most = most_rounds(version).ok_or(DAMAGED)?;
+    let rounds = small_of(row.rounds).ok_or(DAMAGED)?;
+    let cut = small_of(row.cut).ok_or(DAMAGED)?;
+    let phase = phase_of(row.phase).ok_or(DAMAGED)?;
+    let name = Name::try_from_bytes(row.name.as_slice()).map_err(|_fault| DAMAGED)?;
     if !is_setup(rounds, cut) {
         return Err(DAMAGED);
     }

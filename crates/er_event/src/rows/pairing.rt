@@ -7,7 +7,7 @@ ghost use Rattle.er_event.specs.declared.matches.Match.{Match};
 ghost use Rattle.er_event.specs.declared.rounds.Round.{Round};
 ghost use Rattle.er_event.specs.declared.refusals.Place.{Place};
 ghost use Rattle.er_event.specs.Rows.{pairing_row, keyed_round_rows, keyed_rows_from};
-ghost use Rattle.er_event.specs.Round.{is_bye, numbered_from, table_of};
+ghost use Rattle.er_event.specs.Round.{is_bye, table_of};
 ghost use Rattle.er_event.specs.Score.{is_swiss_score};
 ghost use Rattle.er_event.specs.Match.{MayStand};
 ghost use Rattle.er_share.specs.declared.TheConstants.{MAX_ROUNDS};
@@ -95,13 +95,9 @@ fn possible_match(row: &PairingRow) -> Option<Match>
     ensures { (round : ℕ) (n : ℕ × Match) → FitsRow n.1 → row.now ≡ pairing_row round n
         → result ≡ Some n.1 }
 {
-    let Some((a, b)) = players_of(row) else {
-        return None;
-    };
-    match score_of(row) {
-        Some(score) => Some(Match { a, b, score }),
-        None => None,
-    }
+    let (a, b) = players_of(row)?;
+    let score = score_of(row)?;
+    Some(Match { a, b, score })
 }
 
 /// The number that stands in a row for the table. A bye has none.
@@ -118,9 +114,7 @@ fn read_match(round: u8, table: usize, row: &PairingRow) -> Option<Match>
     ensures exact { (m : Match) → FitsRow m → row.now ≡ pairing_row round (table, m)
         → result ≡ Some m }
 {
-    let Some(played) = possible_match(row) else {
-        return None;
-    };
+    let played = possible_match(row)?;
     if PairingRow::of(round, table, &played) == *row {
         Some(played)
     } else {

@@ -64,9 +64,7 @@ fn read_rows(alloc: Global, rows: &[PlayerRow]) -> Result<Vec<Player>, PartsFaul
 {
     let mut players = Vec::new(alloc);
     for row in rows {
-        let Some(player) = read_player(row) else {
-            return Err(DAMAGED);
-        };
+        let player = read_player(row).ok_or(DAMAGED)?;
         players.push(player).map_err(AllocError::from)?;
     }
     Ok(players)

@@ -3,12 +3,12 @@ use Rattle.std.specs.Prelude.{◌≡◌, ℕ, zero, suc, ◌+◌, ◌<◌, Bool,
 use Rattle.std.specs.Prelude.{None}
 use Rattle.std.specs.List.{range_with_len}
 use Rattle.er_pair.specs.declared.dead_ends.KnownDeadEnd.{KnownDeadEnd}
-use Rattle.er_pair.specs.declared.rows.Cursor.{Cursor}
-use Rattle.er_pair.specs.declared.rows.Row.{Row}
+use Rattle.er_pair.specs.declared.places.Cursor.{Cursor}
+use Rattle.er_pair.specs.declared.places.Places.{Places}
 use Rattle.er_pair.specs.declared.search.Outcome.{Outcome}
 use Rattle.er_pair.specs.declared.search.Outcome.TheVariants.{Paired, DeadEnd, OutOfSteps}
 use Rattle.er_pair.specs.Pairing.{Pair}
-use Rattle.er_pair.specs.Rows.{has_place, ahead_of, row_at}
+use Rattle.er_pair.specs.inside.Places.{has_place, ahead_of, row_at}
 
 -- the pairs that were found, if any, and how many steps were made
 abbrev pub Answer : Type 0
@@ -42,26 +42,26 @@ SearchAnswers answer steps found left DeadEnd = (answer.0 ≡ None) × (left + a
 SearchAnswers answer steps found left OutOfSteps = steps < answer.1
 
 -- the two positions have met, by the row of the first
-abbrev pub met_in : List Row → ℕ → ℕ → Bool
+abbrev pub met_in : List Places → ℕ → ℕ → Bool
 met_in rows p q = has_place (row_at rows p) q
 
 -- the positions before the end that the row leaves free, and that are ahead of a cursor
-unfoldable pub free_ahead : Row → Cursor → ℕ → List ℕ
+unfoldable pub free_ahead : Places → Cursor → ℕ → List ℕ
 free_ahead used cursor end = filter (ahead_of used used cursor) (range_with_len 0 end)
 
 -- the search of what is ahead
-abbrev pub answer_ahead : List Row → Row → Cursor → Answer
+abbrev pub answer_ahead : List Places → Places → Cursor → Answer
 answer_ahead rows used ahead = search_of (met_in rows) (free_ahead used ahead (length rows))
 
 -- what is ahead can't be paired, and a search finds that after so many steps
-abbrev pub IsDeadAhead : List Row → Row → Cursor → ℕ → Type 0
+abbrev pub IsDeadAhead : List Places → Places → Cursor → ℕ → Type 0
 IsDeadAhead rows used ahead steps = ((answer_ahead rows used ahead).0 ≡ None) × ((answer_ahead rows used ahead).1 ≡ steps)
 
 -- what is kept of a dead end, but where no place is left, is so whatever is used
-abbrev pub IsTrueDeadEnd : List Row → KnownDeadEnd → Type 0
-IsTrueDeadEnd rows known = 0 < known.left → (used : Row)
+abbrev pub IsTrueDeadEnd : List Places → KnownDeadEnd → Type 0
+IsTrueDeadEnd rows known = 0 < known.left → (used : Places)
     → IsDeadAhead rows used (record { index = known.index; left = known.left }) known.steps
 
-pub record AreDeadEnds (rows : List Row) (kept : List KnownDeadEnd) : Type 0 where
+pub record AreDeadEnds (rows : List Places) (kept : List KnownDeadEnd) : Type 0 where
   pub some : 0 < length kept
   pub each : All (λ known. IsTrueDeadEnd rows known) kept

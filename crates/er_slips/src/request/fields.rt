@@ -3,8 +3,8 @@ ghost use Rattle.std.specs.Char.{to_ascii_lowercase};
 ghost use Rattle.httparse.specs.Spans.{header_bytes, IsHeaderWithin};
 ghost use Rattle.er_slips.specs.Request.{is_named, length_of, body_length};
 
-use crate::request::numbers::are_digits;
 use crate::request::wanted::Fault;
+use er_paper::digits;
 use httparse::spans::HeaderSpan;
 
 /// How many bytes a body may have.
@@ -24,13 +24,11 @@ fn length_of(value: &[u8]) -> Result<usize, Fault>
     ensures value { result ≡ length_of value.now }
     ensures short { IfOk result (λ length. length ≤ MAX_BODY) }
 {
-    if value.is_empty() || !are_digits(value) {
+    if value.is_empty() {
         return Err(Fault::BadRequest);
     }
-    let Ok(digits) = str::from_utf8(value) else {
-        return Err(Fault::BadRequest);
-    };
-    match digits.parse::<u64>() {
+    let text = digits(value).ok_or(Fault::BadRequest)?;
+    match text.parse::<u64>() {
         Ok(length) if length <= MAX_BODY as u64 => Ok(length as usize),
         _ => Err(Fault::TooLarge),
     }

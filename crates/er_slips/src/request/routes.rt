@@ -1,8 +1,8 @@
-ghost use Rattle.std.specs.Prelude.{◌≡◌, ◌≤◌, IfOk, length, take, drop};
+ghost use Rattle.std.specs.Prelude.{◌≡◌, ◌≤◌, IfOk, length, take};
 ghost use Rattle.er_slips.specs.Routes.{before_slash, after_slash, routes, pattern_of};
 ghost use Rattle.er_slips.specs.Request.{path_of, path_number, path_round, round_route, table_route, route_of};
 
-use crate::request::numbers::are_digits;
+use er_paper::digits;
 use matchit::{InsertError, Router};
 use std::alloc::{AllocError, Global};
 use std::marker::Model;
@@ -99,24 +99,14 @@ fn split(text: &[u8]) -> (&[u8], &[u8])
     (&text[..end], &text[end..])
 }
 
-/// What stands behind so many bytes.
-fn behind(text: &[u8], count: usize) -> &[u8]
-    ensures { result.now ≡ drop count text.now }
-{
-    &text[count.min(text.len())..]
-}
-
 /// The number that 1 to 3 digits are.
 fn number_of(part: &[u8]) -> Option<u16>
     ensures { result ≡ path_number part.now }
 {
-    if part.len() > 3 || !are_digits(part) {
+    if part.len() > 3 {
         return None;
     }
-    match str::from_utf8(part) {
-        Ok(digits) => digits.parse().ok(),
-        Err(_) => None,
-    }
+    digits(part)?.parse().ok()
 }
 
 fn round_of(part: &[u8]) -> Option<u8>
@@ -139,7 +129,7 @@ fn table_route(rest: &[u8]) -> Option<Route>
 {
     let (round, rest) = split(rest);
     let round = round_of(round)?;
-    let table = number_of(behind(rest, 8))?;
+    let table = number_of(rest.strip_prefix(b"/tables/")?)?;
     Some(Route::Table { round, table })
 }
 
@@ -147,10 +137,10 @@ fn table_route(rest: &[u8]) -> Option<Route>
 pub fn route_of(routes: &Routes, path: &str) -> Option<Route>
     ensures { result ≡ route_of path.now }
 {
-    let rest = behind(path.as_bytes(), 8);
+    let bytes = path.as_bytes();
     match routes.pattern_of(path)? {
         Pattern::Standings => Some(Route::Standings),
-        Pattern::Round => round_route(rest),
-        Pattern::Table => table_route(rest),
+        Pattern::Round => round_route(bytes.strip_prefix(b"/rounds/")?),
+        Pattern::Table => table_route(bytes.strip_prefix(b"/rounds/")?),
     }
 }

@@ -1,5 +1,6 @@
 -- Who met whom, as the tables show it.
-use Rattle.std.specs.Prelude.{ℕ, ℤ, pos, ◌+◌, min, max, Bool, true, not, List, [], ◌∷◌, ◌++◌, map, filter, find, Option, Some, None}
+use Rattle.std.specs.Prelude.{ℕ, ℤ, pos, min, max, Bool, true, not, List, map, filter, flat_map, find, Option, Some, None}
+use Rattle.std.specs.List.{enumerate_from}
 use Rattle.std.specs.Prelude.{option_map, is_some}
 use Rattle.std.specs.Ordering.{int_eq}
 use Rattle.er_event.specs.declared.matches.Match.{Match}
@@ -8,7 +9,7 @@ use Rattle.er_event.specs.declared.rows.tally.TallyRow.{TallyRow}
 use Rattle.er_event.specs.declared.tallies.Meeting.{Meeting}
 use Rattle.er_event.specs.declared.totals.Totals.{Totals}
 use Rattle.er_event.specs.Event.{EventValue}
-use Rattle.er_event.specs.Round.{is_bye, numbered_from}
+use Rattle.er_event.specs.Round.{is_bye}
 use Rattle.er_event.specs.Rows.{flag, tally_row}
 use Rattle.er_event.specs.Totals.{totals}
 use Rattle.er_store.specs.declared.rows.MeetingRow.{MeetingRow}
@@ -28,11 +29,10 @@ meeting_row come_to round numbered =
 -- a bye is no meeting
 abbrev pub round_meetings : (ℕ → Totals) → ℕ → List Match → List MeetingRow
 round_meetings come_to round matches =
-    map (meeting_row come_to round) (filter (λ (n : ℕ × Match). not (is_bye n.1)) (numbered_from 1 matches))
+    map (meeting_row come_to round) (filter (λ (n : ℕ × Match). not (is_bye n.1)) (enumerate_from 1 matches))
 
 abbrev pub meetings_from : (ℕ → Totals) → ℕ → List Round → List MeetingRow
-meetings_from come_to round [] = []
-meetings_from come_to round (r ∷ later) = round_meetings come_to round r.matches ++ meetings_from come_to (round + 1) later
+meetings_from come_to first rounds = flat_map (λ (n : ℕ × Round). round_meetings come_to n.0 n.1.matches) (enumerate_from first rounds)
 
 -- one for each match of two players, by round and table, whether it has a score or not
 abbrev pub meeting_rows : EventValue → List MeetingRow

@@ -16,4 +16,4 @@ pub returns : goal.returns
 returns g c = (_, inr (refl, refl, inl (c.end_with.ensures, refl)), c.asks_nothing.ensures)
 
 pub returns-in_default : goal.returns-in_default
-returns-in_default g c = (_, inr (refl, refl, inr c.tell_refusal.ensures), c.asks_nothing.ensures)
+returns-in_default g c = (_, inr (refl, refl, inr c.print.ensures), c.asks_nothing.ensures)

@@ -57,8 +57,8 @@ returns-clause-ends g c =
     ) (
     rw (sym c.as_str-path.ensures) (inr (record {
       done = c.in-Err.why;
-      told = c.tell_unopened.ensures.told;
-      file = inl (c.tell_unopened.ensures.left, c.in-Err.ensures.absent);
+      told = c.tell_no_desk.ensures.told;
+      file = inl (c.tell_no_desk.ensures.left, c.in-Err.ensures.absent);
     }))
     )
 
@@ -69,6 +69,6 @@ returns-clause-goes_on g c =
       sym (ap (λ (parts : List ℕ × Action). parts.1) c.file_and_action-file.ensures),
       c.in-Open.is,
     ) (
-    rw (sym c.as_str-path.ensures) (absent_goes_on _ (g.H.Host.world c.args.host.now) c.as_str-path.result.now _ _ c.in-Err.why c.in-Err.ensures.absent c.tell_unopened.ensures.left
-    c.tell_unopened.ensures.told c.in-Open.task)
+    rw (sym c.as_str-path.ensures) (absent_goes_on _ (g.H.Host.world c.args.host.now) c.as_str-path.result.now _ _ c.in-Err.why c.in-Err.ensures.absent c.tell_no_desk.ensures.left
+    c.tell_no_desk.ensures.told c.in-Open.task)
     )

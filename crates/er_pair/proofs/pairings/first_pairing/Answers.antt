@@ -2,8 +2,8 @@ use Rattle.std.proofs.{lemmas.Grind.common_steps, Common.{◌≡◌, inr, refl, 
 use Rattle.er_pair.specs.{declared.search.Outcome.TheVariants.{Paired, DeadEnd, OutOfSteps}, declared.pairings.TheConstants.MAX_STEPS}
 use Rattle.er_pair.specs.{Met.has_met, Pairing.{all_positions, IsEarliest}, Steps.{met_at, NeedsMore}, inside.Search.Answer}
 use Rattle.er_pair.specs.inside.Search.{SearchAnswers, AreDeadEnds, answer_ahead, search_of}
-use Rattle.er_pair.proofs.{Entries.{one_earliest, short_needs, more_needed}, Answering.{as_long, of_order, within_order, paired, unpaired}}
-use Rattle.er_pair.proofs.{Answering.{short_within, fresh_within, fresh_pairs}, Seating.{first_before_second, each_sits, none_has_met}}
+use Rattle.er_pair.proofs.{Entries.more_needed, Answering.{as_long, of_order, within_order, paired, unpaired}}
+use Rattle.er_pair.proofs.{Answering.{short_within, fresh_within, fresh_pairs}, Seating.{each_sits, none_has_met}}
 use Rattle.er_pair.proofs.pairings.first_pairing.Goals.{After-as_mut_slice, In-Paired}
 use Rattle.er_pair.proofs.pairings.first_pairing.Goals as goal
 
@@ -39,12 +39,9 @@ returns-in-Paired c =
       earliest = (pairs, earliest.0, entries);
       seated = each_sits (has_met c.args.met.now) order pairs _ earliest.0.legal entries;
       new_opponents = none_has_met (has_met c.args.met.now) order pairs _ earliest.0.legal entries;
-      in_order = first_before_second (has_met c.args.met.now) order;
-      one = one_earliest (has_met c.args.met.now) order;
       none = search rules;
       budget = inr (λ e. absurd (cc), λ more. absurd (earliest.1 more));
       steps = search rules;
-      short_steps = short_needs (has_met c.args.met.now) order;
       short = search rules;
       fresh = search rules;
     }
@@ -60,12 +57,9 @@ returns-in-DeadEnd c =
       earliest = search rules;
       seated = search rules;
       new_opponents = search rules;
-      in_order = first_before_second (has_met c.args.met.now) order;
-      one = one_earliest (has_met c.args.met.now) order;
       none = λ _. dead.0;
       budget = inr (λ e. absurd (cc), λ more. absurd (dead.1 more));
       steps = search rules;
-      short_steps = short_needs (has_met c.args.met.now) order;
       short = search rules;
       fresh = λ fault fresh e. absurd (fresh_pairs (has_met c.args.met.now) order fresh c.requires.even answers.0);
     }
@@ -79,49 +73,10 @@ returns c =
       earliest = search rules;
       seated = search rules;
       new_opponents = search rules;
-      in_order = first_before_second (has_met c.args.met.now) order;
-      one = one_earliest (has_met c.args.met.now) order;
       none = search rules;
       budget = inr (λ _. more_needed (has_met c.args.met.now) order MAX_STEPS answers, λ _. refl);
       steps = search rules;
-      short_steps = short_needs (has_met c.args.met.now) order;
       short = λ steps short e. short_within (has_met c.args.met.now) order answers short;
       fresh = λ fault fresh e.
           absurd (fresh_within (has_met c.args.met.now) order fresh c.requires.even answers c.requires.few);
     }
-
-pub returns-in_err-rows-clause-in_order : goal.returns-in_err-rows-clause-in_order
-returns-in_err-rows-clause-in_order c = first_before_second (has_met c.args.met.now) c.args.order.now
-
-pub returns-in_err-rows-clause-one : goal.returns-in_err-rows-clause-one
-returns-in_err-rows-clause-one c = one_earliest (has_met c.args.met.now) c.args.order.now
-
-pub returns-in_err-rows-clause-short_steps : goal.returns-in_err-rows-clause-short_steps
-returns-in_err-rows-clause-short_steps c = short_needs (has_met c.args.met.now) c.args.order.now
-
-pub returns-in_err-pairs-clause-in_order : goal.returns-in_err-pairs-clause-in_order
-returns-in_err-pairs-clause-in_order c = first_before_second (has_met c.args.met.now) c.args.order.now
-
-pub returns-in_err-pairs-clause-one : goal.returns-in_err-pairs-clause-one
-returns-in_err-pairs-clause-one c = one_earliest (has_met c.args.met.now) c.args.order.now
-
-pub returns-in_err-pairs-clause-short_steps : goal.returns-in_err-pairs-clause-short_steps
-returns-in_err-pairs-clause-short_steps c = short_needs (has_met c.args.met.now) c.args.order.now
-
-pub returns-in_err-kept-clause-in_order : goal.returns-in_err-kept-clause-in_order
-returns-in_err-kept-clause-in_order c = first_before_second (has_met c.args.met.now) c.args.order.now
-
-pub returns-in_err-kept-clause-one : goal.returns-in_err-kept-clause-one
-returns-in_err-kept-clause-one c = one_earliest (has_met c.args.met.now) c.args.order.now
-
-pub returns-in_err-kept-clause-short_steps : goal.returns-in_err-kept-clause-short_steps
-returns-in_err-kept-clause-short_steps c = short_needs (has_met c.args.met.now) c.args.order.now
-
-pub returns-in_err-entries_at-in-Paired-clause-in_order : goal.returns-in_err-entries_at-in-Paired-clause-in_order
-returns-in_err-entries_at-in-Paired-clause-in_order c = first_before_second (has_met c.args.met.now) c.args.order.now
-
-pub returns-in_err-entries_at-in-Paired-clause-one : goal.returns-in_err-entries_at-in-Paired-clause-one
-returns-in_err-entries_at-in-Paired-clause-one c = one_earliest (has_met c.args.met.now) c.args.order.now
-
-pub returns-in_err-entries_at-in-Paired-clause-short_steps : goal.returns-in_err-entries_at-in-Paired-clause-short_steps
-returns-in_err-entries_at-in-Paired-clause-short_steps c = short_needs (has_met c.args.met.now) c.args.order.now

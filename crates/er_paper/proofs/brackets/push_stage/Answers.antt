@@ -1,5 +1,5 @@
+use Rattle.std.specs.List.{enumerate_from}
 use Rattle.std.proofs.Common.{◌≡◌, ℕ, ◌+◌, ◌++◌, string_bytes, flat_map, take, sym, ap, ◌∙◌, arith, append_assoc}
-use Rattle.er_event.specs.Round.{numbered_from}
 use Rattle.er_paper.specs.Texts.{slot_line}
 use Rattle.er_paper.proofs.PairingLemmas.{lines-more}
 use Rattle.er_paper.proofs.brackets.push_stage.Goals as goal
@@ -11,7 +11,7 @@ loop-place-preserved c =
     let m = c.index-matches-place.result in
     let line = slot_line c.args.event.now c.args.stage in
     let before = string_bytes c.args.text.now in
-    let lines = flat_map line (numbered_from 1 (take place matches)) in
+    let lines = flat_map line (enumerate_from 1 (take place matches)) in
     let slot : place + 1 ≡ 1 + place = omega arith in
     c.in_ok-push_slot.ensures
     ∙ (ap (λ text. text ++ line (place + 1, m)) c.loop-place.invariant

@@ -1,6 +1,6 @@
+use Rattle.std.specs.List.{enumerate_from}
 use Rattle.std.proofs.{lemmas.Grind.common_steps, Common.{◌++◌, flat_map, take, sym, ap, ◌∙◌, arith, append_assoc, ◌+◌}}
 use Rattle.std.proofs.lemmas.List.{take_all}
-use Rattle.er_event.specs.Round.{numbered_from}
 use Rattle.er_paper.proofs.{PairingLemmas.lines-more, Rows.{result_row, rows-of-round}}
 use Rattle.er_paper.specs.inside.Writer.{written_bytes}
 use Rattle.er_paper.proofs.exports.push_round.Goals as goal
@@ -12,7 +12,7 @@ loop-place-preserved c =
     let matches = c.args.matches.now in
     let m = c.index-matches-place.result in
     let before = written_bytes c.args.table.now in
-    let rows = flat_map row (numbered_from 1 (take place matches)) in
+    let rows = flat_map row (enumerate_from 1 (take place matches)) in
     record {
       plain = c.in_ok-push_result.ensures.plain;
       text = c.in_ok-push_result.ensures.text

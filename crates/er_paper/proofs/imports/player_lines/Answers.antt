@@ -9,10 +9,10 @@ loop-at-preserved c =
     let line = chosen_line c.args.heading in
     let at = c.loop-at.at in
     let row = c.index-rows-at.result in
-    let items : c.push.new.self.items ≡ c.loop-at.lines.items ++ c.in-Some.line ∷ [] = grind (arith, common_steps) in
+    let items : c.push.new.self.items ≡ c.loop-at.lines.items ++ c.in_ok-line.line ∷ [] = grind (arith, common_steps) in
     let number : 1 + at ≡ at + 1 = omega arith in
-    let read : line (1 + at) (fields_of row) ≡ Some c.in-Some.line = ap (λ (k : ℕ). line k (fields_of row)) number
-    ∙ sym c.line_under.ensures ∙ c.in-Some.is in
+    let read : line (1 + at) (fields_of row) ≡ Some c.in_ok-line.line = ap (λ (k : ℕ). line k (fields_of row)) number
+    ∙ sym c.line_under.ensures ∙ c.in_ok-line.ensures.ok_part in
     subst (λ (ls : List PlayerLine). Reached line c.args.rows.now ls (at + 1)) (sym items)
     (reached-more line c.args.rows.now c.loop-at.lines.items at row c.loop-at-test.true c.index-rows-at.is c.loop-at.invariant
-    c.in-Some.line (at + 1) read refl)
+    c.in_ok-line.line (at + 1) read refl)

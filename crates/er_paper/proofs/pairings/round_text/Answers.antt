@@ -1,5 +1,5 @@
+use Rattle.std.specs.List.{enumerate_from}
 use Rattle.std.proofs.Common.{◌∷◌, ◌++◌, codes, flat_map, take, sym, ap, ◌∙◌}
-use Rattle.er_event.specs.Round.{numbered_from}
 use Rattle.er_paper.specs.Texts.{pairing_line, table_line}
 use Rattle.er_paper.proofs.PairingLemmas.{lines-more}
 use Rattle.er_paper.proofs.pairings.round_text.Goals as goal
@@ -13,6 +13,6 @@ loop-place-preserved c =
     let pushed = c.in_ok-push_pairing.ensures in
     let more = lines-more (table_line event) matches place m c.loop-place-test.true c.index-matches-place.is in
     pushed ∙ (ap (λ text. text ++ pairing_line event c.table_at.result m) c.loop-place.invariant
-    ∙ (ap (λ table. (codes " Tab    A    B Score Names" ++ (10 ∷ flat_map (table_line event) (numbered_from 1 (take place matches))))
+    ∙ (ap (λ table. (codes " Tab    A    B Score Names" ++ (10 ∷ flat_map (table_line event) (enumerate_from 1 (take place matches))))
     ++ pairing_line event table m) c.table_at.ensures
     ∙ ap (λ lines. codes " Tab    A    B Score Names" ++ (10 ∷ lines)) (sym more)))

@@ -20,8 +20,8 @@ loop-row-init c =
       left,
       rw e at fr.config ∙ c.new.ensures.config,
       rw e at fr.flexible,
-      strip_bom c.args.bytes.now,
-      fr.source,
+      strip_bom (strip_bom c.args.bytes.now),
+      fr.source ∙ ap (λ text. Some (strip_bom text)) c.without_mark.ensures,
       (sym fr.state, refl),
     )
 
@@ -34,7 +34,7 @@ loop-row-preserved c =
     let good : is_ok c.push.result ≡ true = search rules in
     let items = rw good at c.push.ensures.items in
     let m = rows-more (λ (s : Bor (List ℕ)). Some s.now) c.loop-row.row-iterator.rdr c.next.new.self.rdr
-    (fields_of c.in-Ok.row) default_config st.StartRecord (strip_bom c.args.bytes.now) inv.5
+    (fields_of c.in-Ok.row) default_config st.StartRecord (strip_bom (strip_bom c.args.bytes.now)) inv.5
     (map fields_of c.loop-row.rows.items) inv.3 inv.6 inv.7 s.0 in (
       s.0.3 ∙ inv.0,
       inl s.1,

@@ -42,11 +42,12 @@ returns-clause-taken c =
     let checked = c.in_ok-check_pair.ensures in
     let ps = c.in_ok-pairs.pairs.items in
     let found = c.in_ok-pairs.ensures.earliest in
+    let seats = c.legal_seats.ensures (has_met c.in_ok-met.met) c.as_slice.result.now found.0 found.1.legal in
     let here : IsPairing (has_met c.in_ok-met.met) c.as_slice.result.now ps = record {
       pairs = found.0;
       earliest = found.1;
       are = found.2;
-      rising = c.in_ok-pairs.ensures.in_order found.0 found.1.legal;
+      rising = seats.in_order;
       seated_all = c.in_ok-pairs.ensures.seated;
       new = c.in_ok-pairs.ensures.new_opponents;
     } in

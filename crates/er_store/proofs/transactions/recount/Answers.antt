@@ -3,7 +3,7 @@ use Rattle.er_store.proofs.{Lending.{lends_self, lends_then}, Crash.was_clean, T
 use Rattle.er_store.proofs.Tallying.{numbered_too, rows_agree, none_set, not_yet, set_more, all_set, moves_self, contains_numbered}
 use Rattle.er_store.proofs.Tallying.{number-at}
 use Rattle.er_store.proofs.Tallying.{length-numbers}
-use Rattle.er_store.proofs.Tallying.{none-set, others-at, totals-at}
+use Rattle.er_store.proofs.Tallying.{totals-at}
 use Rattle.er_store.proofs.Prelude.{get_or, sym}
 use Rattle.er_event.specs.Totals.{gathered_of}
 use Rattle.er_store.proofs.transactions.recount.Goals as goal
@@ -35,9 +35,10 @@ loop-player-preserved g c =
     let below : k < length event.players = rw value at c.loop-player-test.true in
     let it = c.player-item.result in
     let is : it ≡ get_or event.players k it = rw value at c.player-item.is in
-    let others = c.recount_of-recount.ensures.others in
-    let due : gathered_of c.all_totals_after-all.result it ≡ now it.no =
-    totals-at (after event c.args.change.now) event.players c.all_totals_after-all.result c.all_totals_after-all.ensures k it below is in
+    let was_due : gathered_of c.all_totals-before.result it ≡ before it.no =
+    totals-at event event.players c.all_totals-before.result c.all_totals-before.ensures k it below is in
+    let due : gathered_of c.all_totals_after-now.result it ≡ now it.no =
+    totals-at (after event c.args.change.now) event.players c.all_totals_after-now.result c.all_totals_after-now.ensures k it below is in
     let no : it.no ≡ k + 1 = ap (λ (p : Player). p.no) (rw value at c.player-item.is) ∙ (number-at event sound k it below ∙ omega arith)
     in (
       lends_then so_far.0 c.recount_one.ensures.lends,
@@ -47,12 +48,11 @@ loop-player-preserved g c =
           let many = length-numbers e.players event.players same in
           let known = contains_numbered e.players it.no numbered (omega (arith, no)) (omega (arith, no, many, below)) in
           let made = c.in_ok-recount_one.ensures.makes l e (set_up_to k now before) (numbered, known)
-          (λ left. not_yet now before k it.no no
-          ∙ (sym (others-at event now before c.recount_of-recount.result others k it below is left) ∙ sym due))
+          (not_yet now before k it.no no ∙ sym (c.of.ensures ∙ was_due))
           (moves_self was.moves) s was.represents clean in
           rw (← rows_agree (set_for it.no (now it.no) (set_up_to k now before)) (set_up_to (k + 1) now before) e.players numbered
           (λ q low high. set_more now before k it.no q no))
-          (makes_then was (rw due at made)),
+          (makes_then was (rw (c.of-in-loop-player.ensures ∙ due) at made)),
     )
 
 pub returns-clause-makes : goal.returns-clause-makes
@@ -70,15 +70,13 @@ returns-clause-makes g c l e same moves s represents clean =
 pub returns-clause-lends : goal.returns-clause-lends
 returns-clause-lends g c = c.loop-player.invariant.0
 
-pub returns-then-is_empty-clause-makes : goal.returns-then-is_empty-clause-makes
-returns-then-is_empty-clause-makes g c l e same moves s represents clean =
+pub returns-then-not-may_alter_totals-clause-makes : goal.returns-then-not-may_alter_totals-clause-makes
+returns-then-not-may_alter_totals-clause-makes g c l e same moves s represents clean =
     let event = c.args.event.now in
-    let now = totals (after event c.args.change.now) in
-    let before = totals event in
     let sound = c.players-players.ensures.sound in
     let numbered = numbered_too e.players event.players same sound.players.numbered in
     let many = length-numbers e.players event.players same in
-    let none = c.is_empty.ensures.0 c.if-is_empty.true in
-    rw (← rows_agree before now e.players numbered (λ q low high. none-set event now before c.recount_of-recount.result
-    c.recount_of-recount.ensures.others none sound q low (omega (arith, many, high))))
+    rw (← rows_agree (totals event) (totals (after event c.args.change.now)) e.players numbered
+    (λ q low high. sym (c.may_alter_totals.ensures.others (grind arith) q
+    (contains_numbered event.players q sound.players.numbered low (omega (arith, many, high))))))
     (record { moves = moves; represents = represents })

@@ -10,8 +10,8 @@ returns-in_err-refuse_option c =
 
 pub returns : goal.returns
 returns c =
-    let split = rw c.in-Some.is at c.in_ok-name.ensures in
-    Reads-split (map (string_bytes {Z = Global}) c.args.words.now) c.in-Some.name.now _ c.read_named.result c.in_ok-refuse_option.ensures
+    let split = rw c.in_ok-name.ensures.ok_part at c.in_ok-split_words.ensures in
+    Reads-split (map (string_bytes {Z = Global}) c.args.words.now) c.in_ok-name.name.now _ c.read_named.result c.in_ok-refuse_option.ensures
     (sym split)
-    (subst (λ values. ReadsNamed c.in-Some.name.now (map (λ word. word.now) values) c.read_named.result)
+    (subst (λ values. ReadsNamed c.in_ok-name.name.now (map (λ word. word.now) values) c.read_named.result)
     c.deref.ensures.value c.read_named.ensures)

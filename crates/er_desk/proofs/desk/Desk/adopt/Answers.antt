@@ -72,7 +72,8 @@ returns-in-Ok-true g c =
           none (subst HasSeeds (opened.found clean point.event point.serial represents sound).0 seeds);
       same = opened.same;
       left = unchanged_leaves_all (state g.S.Store c.args.conn) (tables.store_state g.S.Store c.in_ok-store.store)
-          (λ db is_open may. g.met.S.Store.settled c.args.conn.store db is_open may) c.in_ok-store.ensures.call.clean opened.crash opened.same;
+          (λ db is_open may. g.met.S.Store.settled c.args.conn.store db is_open may) c.in_ok-store.ensures.call.clean
+          opened.crash opened.same;
     }
 
 -- ---- they do not
@@ -80,7 +81,9 @@ returns-in-Ok-true g c =
 -- What is given back then. That it is the store's connection is for `search` to find, so that a body that keeps the store is
 -- refused there.
 gives_back : {S : Type 0} (g : Ghosts S) (old : State) (it : Store S g × EventValue × ℕ) (back : Held S) → IsAdopted g old it
-    → (HasCleanDisk (tables.store_state g it.0) → HasCleanDisk old) → ((db : Trees) → IsTrue old.is_open → old.may_leave db → db ≡ old.committed.trees) → (HasSeeds it.1 → ⊥)
+    → (HasCleanDisk (tables.store_state g it.0) → HasCleanDisk old)
+    → ((db : Trees) → IsTrue old.is_open → old.may_leave db → db ≡ old.committed.trees)
+    → (HasSeeds it.1 → ⊥)
     → back ≡ tables.connection it.0 → back.in_transaction ≡ false → HasNotAdopted g old (back, Damaged BracketTable)
 gives_back g old it back opened clean settled unseeded same mode =
     let late = back_clean g old back it.0 same in
@@ -125,5 +128,6 @@ returns-in-Err g c =
       left = back_leaves_all g.S.Store (state g.S.Store c.args.conn) c.into_connection-in-Err.result c.in_ok-store.store
           c.into_connection-in-Err.ensures.same
           (unchanged_leaves_all (state g.S.Store c.args.conn) (tables.store_state g.S.Store c.in_ok-store.store)
-          (λ db is_open may. g.met.S.Store.settled c.args.conn.store db is_open may) c.in_ok-store.ensures.call.clean opened.crash opened.same);
+          (λ db is_open may. g.met.S.Store.settled c.args.conn.store db is_open may) c.in_ok-store.ensures.call.clean
+          opened.crash opened.same);
     }

@@ -24,7 +24,8 @@ returns-in-Ok g c =
     let same = sym c.in_ok-next.ensures.ok in
     record {
       taken = (
-        desk_state_same _ _ _ _ _ _ _ c.in_ok-next.ensures.ok wrote.version (c.in-Ok.ensures.as_call.stops c.requires.runs ∙ sym c.requires.runs),
+        desk_state_same _ _ _ _ _ _ _ c.in_ok-next.ensures.ok wrote.version
+            (c.in-Ok.ensures.as_call.stops c.requires.runs ∙ sym c.requires.runs),
         refl,
       );
       refused = tt;

@@ -2,8 +2,8 @@ use Rattle.er_event.proofs.Prelude.{arith}
 use Rattle.er_event.proofs.StageLemmas.{same_rows}
 use Rattle.er_event.proofs.rows.bracket.read_match.Goals as goal
 
-pub returns-in_default-clause-exact : goal.returns-in_default-clause-exact
-returns-in_default-clause-exact c m shown is = grind (arith, c.possible_match.ensures c.args.stage (c.args.slot, m) shown is)
+pub returns-in_err-played-clause-exact : goal.returns-in_err-played-clause-exact
+returns-in_err-played-clause-exact c m shown is = grind (arith, c.possible_match.ensures c.args.stage (c.args.slot, m) shown is)
 
 pub returns-then-eq-clause-value : goal.returns-then-eq-clause-value
 returns-then-eq-clause-value c = grind (arith, (same_rows c.of.result c.args.row.now).0)

@@ -1,15 +1,9 @@
 use Rattle.std.proofs.{lemmas.Grind.common_steps, Common.arith}
-use Rattle.er_slips.proofs.Digits.{length_of-large, text-of-digits}
+use Rattle.er_slips.proofs.Digits.{length_of-large}
 use Rattle.er_slips.proofs.request.fields.length_of.Goals as goal
 
 pub returns-in_default-clause-value : goal.returns-in_default-clause-value
-returns-in_default-clause-value c = grind (arith, common_steps, text-of-digits)
+returns-in_default-clause-value c = grind (arith, common_steps, length_of-large)
 
-pub returns-in-Ok-parse-clause-value : goal.returns-in-Ok-parse-clause-value
-returns-in-Ok-parse-clause-value c = grind (arith, common_steps)
-
-pub returns-in_default-parse-clause-value : goal.returns-in_default-parse-clause-value
-returns-in_default-parse-clause-value c = grind (arith, common_steps)
-
-pub returns-in_default-parse-2-clause-value : goal.returns-in_default-parse-2-clause-value
-returns-in_default-parse-2-clause-value c = grind (arith, common_steps, length_of-large)
+pub returns-in_default-2-clause-value : goal.returns-in_default-2-clause-value
+returns-in_default-2-clause-value c = grind (arith, common_steps, length_of-large)

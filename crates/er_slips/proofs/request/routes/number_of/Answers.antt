@@ -1,9 +1,6 @@
-use Rattle.std.proofs.{Common.{arith, sym}, lemmas.Grind.common_steps}
-use Rattle.er_slips.proofs.Digits.{number_of-parsed, text-of-digits}
+use Rattle.std.proofs.{Common.arith, lemmas.Grind.common_steps}
+use Rattle.er_slips.proofs.Digits.{number_of-parsed}
 use Rattle.er_slips.proofs.request.routes.number_of.Goals as goal
 
-pub returns-in-Ok : goal.returns-in-Ok
-returns-in-Ok c = grind (arith, common_steps, number_of-parsed)
-
-pub returns-in-Err : goal.returns-in-Err
-returns-in-Err c = absurd (c.in-Err.ensures.cases.0 (text-of-digits c.args.part.now (sym c.if-not-are_digits.ensures)))
+pub returns : goal.returns
+returns c = grind (arith, common_steps, number_of-parsed)

@@ -1,6 +1,0 @@
-use Rattle.std.proofs.Common.{rules}
-use Rattle.er_pair.proofs.Ahead.{starts_all}
-use Rattle.er_pair.proofs.rows.Cursor.before_all.Goals as goal
-
-pub returns-clause-ahead : goal.returns-clause-ahead
-returns-clause-ahead c = λ place. starts_all c.args.row.now place (search rules)

@@ -1,5 +1,0 @@
-use Rattle.er_pair.proofs.Bits.{no_place}
-use Rattle.er_pair.proofs.rows.Row.empty.Goals as goal
-
-pub returns : goal.returns
-returns c = no_place

@@ -1,6 +1,0 @@
-use Rattle.std.proofs.Common.{arith}
-use Rattle.er_pair.proofs.Bits.{inserted}
-use Rattle.er_pair.proofs.rows.Row.insert.Goals as goal
-
-pub returns : goal.returns
-returns c = inserted c.args.self.now c.args.place (omega arith)
