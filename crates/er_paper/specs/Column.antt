@@ -34,7 +34,7 @@ mark dropped = if dropped then codes "D" else codes " "
 abbrev pub opponent_name : EventValue → ℕ → List ℕ
 opponent_name event number = if number == 0 then codes "bye" else name_of event number
 
--- `-` where no score is reported
+-- `-` if no score is reported
 abbrev pub score_text : Option Games → List ℕ
 score_text None = codes "-"
 score_text (Some s) = decimal s.x ++ (45 ∷ (decimal s.y ++ (45 ∷ decimal s.d)))

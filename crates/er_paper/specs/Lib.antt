@@ -4,7 +4,7 @@
 -- records of a text, Reading what such a text is read as, or its first bad row, and ReadBack that an export is read as
 -- what was written. Slip is a match as JSON, and the games of one that is handed in.
 --
--- What private functions alone cite lies in `inside`.
+-- What only private functions cite lies in `inside`.
 --
 -- Which contract carries it:
 --   `standings_text` (clauses `value` and `only`), `rows_text`, `players_text`, `pairings_text`, `bracket_text`, `players_csv`,
@@ -13,10 +13,12 @@
 --     to 255.
 --   `read_players_csv`, `read_results_csv`: the lines, exactly if each row keeps the rules; otherwise a faulty heading, or the first bad
 --     row.
+--   `digits`: the bytes as a text, exactly if all are digits.
 --   `laws::players_read_back`, `results_read_back`: what is written of a sound event is read as its players or its matches, and as nothing
 --     else.
 --
--- Each may be refused for memory. Which records a text has, after a byte order mark, is the definition of the `csv` crate (`HasRecords`).
+-- Each but `digits` may be refused for memory. Which records a text has is the definition of the `csv` crate (`HasRecords`):
+-- `without_mark` takes off one byte order mark, and the crate one more.
 --
 -- Wrong body that bears on the theorem: `lenient_slip`.
 pub mod Column

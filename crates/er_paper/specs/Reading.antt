@@ -29,7 +29,7 @@ number_of field =
 abbrev pub is_within : ℕ → ℕ → ℕ → Bool
 is_within low high n = nat_le low n && nat_le n high
 
--- the number from low to high that a field is
+-- a field as a number from low to high
 abbrev pub number_within : ℕ → ℕ → List ℕ → Option ℕ
 number_within low high field = option_and_then (λ n. if is_within low high n then Some n else None) (number_of field)
 
@@ -88,7 +88,7 @@ ReadsPlayers bytes result = (rows : List (List (List ℕ))) × HasRecords bytes 
 abbrev pub if_lawful : Games → Option (Option Games)
 if_lawful games = if is_swiss_score games then Some (Some games) else None
 
--- none where all three fields are empty
+-- none if all three fields are empty
 abbrev pub score_of : List ℕ → List ℕ → List ℕ → Option (Option Games)
 score_of x y d =
     if length x == 0 && length y == 0 && length d == 0 then Some None

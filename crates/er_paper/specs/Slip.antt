@@ -61,7 +61,7 @@ three_values (member a x (member b y (member d z no_members))) =
     if bytes_eq a (codes "a") && (bytes_eq b (codes "b") && bytes_eq d (codes "d")) then Some (x, y, z) else None
 three_values _ = None
 
--- the games that three values are, each a number from 0 to 255
+-- three values as games, each a number from 0 to 255
 abbrev pub games_in_values : Data × Data × Data → Option Games
 games_in_values it = games_with (number_of_games it.0) (number_of_games it.1) (number_of_games it.2)
 

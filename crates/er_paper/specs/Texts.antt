@@ -59,7 +59,7 @@ table_line event numbered = pairing_line event (table_of numbered) numbered.1
 abbrev pub round_text : EventValue → List Match → List ℕ
 round_text event matches = codes " Tab    A    B Score Names" ++ (10 ∷ flat_map (table_line event) (enumerate_from 1 matches))
 
--- none where the round isn't stored
+-- none if the round isn't stored
 abbrev pub pairings_text : EventValue → ℕ → Option (List ℕ)
 pairings_text event round =
     if round == 0 then None

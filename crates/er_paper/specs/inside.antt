@@ -1,3 +1,3 @@
--- What private functions alone cite.
+-- What only private functions cite.
 pub mod Writer
 pub mod Lines

@@ -67,7 +67,7 @@ fn push_champion(text: &mut String, event: &Event) -> Result<(), AllocError>
     writeln!(text, "Champion {number} {name}")
 }
 
-/// The playoff stage by stage, and the champion once it is over. Before the cut it is the heading alone.
+/// The playoff stage by stage, and the champion once it is over. Before the cut it is only the heading.
 pub fn bracket_text(alloc: Global, event: &Event) -> Result<Vec<u8>, AllocError>
     ensures { IfOk result (λ text. text.items ≡ bracket_text event.now) }
 {

@@ -41,7 +41,7 @@ fn push_player(
     push_fields(table, &fields)
 }
 
-/// The text that was written.
+/// Returns the text that was written.
 fn finish(table: Writer<Vec<u8>>) -> Result<Vec<u8>, AllocError>
     requires { IsPlainWriter table }
     ensures { IfOk result (λ text. text.items ≡ written_bytes table) }

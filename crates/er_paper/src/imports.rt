@@ -63,7 +63,7 @@ enum Heading {
     Names,
 }
 
-/// The player of this place, where the name is lawful and there is room.
+/// The player of this place, if the name is lawful and there is room.
 fn player_line(place: usize, name: &[u8], flag: Option<usize>) -> Option<PlayerLine>
     requires { 1 ≤ place }
     ensures { result ≡ lawful_player_line place name.now flag }
@@ -180,7 +180,7 @@ fn byte_within(low: usize, high: usize, field: &[u8]) -> Option<u8>
     u8::try_from(number).ok()
 }
 
-/// A player or a table, from this number on.
+/// Parses a field as a player or a table, from this number on.
 fn seat_from(low: usize, field: &[u8]) -> Option<u16>
     ensures { result ≡ number_within low MAX_PLAYERS field.now }
 {
@@ -188,7 +188,7 @@ fn seat_from(low: usize, field: &[u8]) -> Option<u16>
     u16::try_from(number).ok()
 }
 
-/// The score that three fields are, none where all are empty.
+/// Reads three fields as a score, or as no score if all three are empty.
 fn score_of(x: &[u8], y: &[u8], d: &[u8]) -> Option<Option<Score>>
     ensures { result ≡ score_of x.now y.now d.now }
 {
@@ -220,7 +220,7 @@ fn result_of(row: &ByteRecord) -> Option<ResultLine>
     })
 }
 
-/// A line in its parts: the checker covers this push only where the score's type is named beside it.
+/// Pushes a line, given in its parts: the checker covers this push only if the score's type is named beside it.
 fn push_result(
     lines: &mut Vec<ResultLine>,
     round: u8,

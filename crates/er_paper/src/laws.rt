@@ -1,4 +1,4 @@
-//! Laws of the tables, over the definitions alone. A law is a function with no code, whose contract is the law.
+//! Laws of the tables, stated over the definitions only. A law is a function with no code, whose contract is the law.
 
 ghost use Rattle.er_paper.specs.ReadBack.{PlayersReadBack, ResultsReadBack};
 

@@ -3,7 +3,7 @@ ghost use Rattle.std.specs.List.{list_all};
 ghost use Rattle.std.specs.Char.{is_ascii_digit};
 ghost use Rattle.er_paper.specs.Reading.{number_of, number_within};
 
-/// Whether each byte is a digit. A sign is none.
+/// Whether each byte is a digit. A sign isn't one.
 fn are_digits(bytes: &[u8]) -> bool
     ensures { result ≡ list_all is_ascii_digit bytes.now }
 {
@@ -22,7 +22,7 @@ pub fn digits(bytes: &[u8]) -> Option<&str>
     }
 }
 
-/// The number that 1 to 6 digits are.
+/// Parses 1 to 6 digits as a number.
 fn number_of(field: &[u8]) -> Option<u32>
     ensures { result ≡ number_of field.now }
 {

@@ -8,7 +8,7 @@ use er_event::{Event, Match, Score};
 use std::alloc::{AllocError, Global};
 use std::fmt::Write;
 
-/// The score as it is printed, and `-` where it is open.
+/// The score as it is printed, or `-` if it is open.
 fn score_text(alloc: Global, score: Option<Score>) -> Result<String, AllocError>
     ensures { IfOk result (λ text. string_bytes text ≡ score_text score) }
 {
@@ -69,7 +69,7 @@ fn round_text(alloc: Global, event: &Event, matches: &[Match]) -> Result<Vec<u8>
     Ok(text.into_bytes())
 }
 
-/// The pairings of a stored round, tables 1, 2, .. and then the bye, or none where the round is not stored.
+/// Returns the pairings of a stored round: tables 1, 2, .. and then the bye. `None` if the round isn't stored.
 pub fn pairings_text(alloc: Global, event: &Event, round: u8) -> Result<Option<Vec<u8>>, AllocError>
     ensures { IfOk result (λ text. option_map (λ t. t.items) text ≡ pairings_text event.now round) }
 {

@@ -6,7 +6,7 @@ ghost use Rattle.er_paper.specs.Csv.{HasRecords};
 use csv::{ByteRecord, ErrorKind, ReaderBuilder};
 use std::alloc::{AllocError, Global};
 
-/// The text after a byte order mark, if it begins with one.
+/// Returns the text after a byte order mark, if it begins with one, or else the whole text.
 fn without_mark(bytes: &[u8]) -> &[u8]
     ensures { result.now ≡ strip_bom bytes.now }
 {
@@ -36,7 +36,7 @@ pub fn records(alloc: Global, bytes: &[u8]) -> Result<Vec<ByteRecord>, AllocErro
     Ok(rows)
 }
 
-/// The fields of a record that has three.
+/// Returns the fields of a record, if it has three.
 pub fn three_fields(row: &ByteRecord) -> Option<(&[u8], &[u8], &[u8])>
     ensures { MatchOption result (length (fields_of row.now) ≢ 3) (λ f. fields_of row.now
         ≡ f.0.now ∷ f.1.now ∷ f.2.now ∷ []) }
@@ -59,7 +59,7 @@ pub struct ResultFields<'a> {
     pub d: &'a [u8],
 }
 
-/// The fields of a record that has seven.
+/// Returns the fields of a record, if it has seven.
 pub fn seven_fields(row: &ByteRecord) -> Option<ResultFields<'_>>
     ensures { MatchOption result (length (fields_of row.now) ≢ 7) (λ f. fields_of row.now
         ≡ f.round.now ∷ f.table.now ∷ f.a.now ∷ f.b.now ∷ f.x.now ∷ f.y.now ∷ f.d.now ∷ []) }
@@ -78,7 +78,7 @@ pub fn seven_fields(row: &ByteRecord) -> Option<ResultFields<'_>>
     })
 }
 
-/// The field of a record that has one.
+/// Returns the field of a record, if it has one.
 pub fn only_field(row: &ByteRecord) -> Option<&[u8]>
     ensures { MatchOption result (length (fields_of row.now) ≢ 1) (λ f. fields_of row.now
         ≡ f.now ∷ []) }

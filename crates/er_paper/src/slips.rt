@@ -10,7 +10,7 @@ use serde_json::{Map, Value, json};
 use std::alloc::{AllocError, Global};
 use thiserror::Error;
 
-/// Why bytes are no slip.
+/// Why bytes aren't a slip.
 #[derive(Clone, Copy, Debug, PartialEq, Eq, Error)]
 pub enum SlipFault {
     #[error("the bytes are no slip")]
@@ -118,7 +118,7 @@ fn games_in(value: &Value) -> Option<Games>
     })
 }
 
-/// The games of a slip that is handed in: an object with exactly the keys `a`, `b` and `d`, each a whole number from 0 to 255.
+/// Reads the games of a slip that is handed in: an object with exactly the keys `a`, `b` and `d`, each a whole number from 0 to 255.
 pub fn read_slip(alloc: Global, bytes: &[u8]) -> Result<Games, SlipFault>
     ensures ok { IfOk result (λ games. slip_games bytes.now ≡ Some games) }
     ensures bad { result ≡ Err SlipFault.Bad → slip_games bytes.now ≡ None }
