@@ -75,7 +75,7 @@ serve = refl
 migrate : line_of (codes "migrate" ∷ f ∷ []) ≡ Some (line.Migrate f)
 migrate = refl
 
--- ---- what is no line
+-- ---- what isn't a line
 
 no_word : fault_of [] ≡ Some UnknownSubcommand
 no_word = refl

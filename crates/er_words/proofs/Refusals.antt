@@ -1,4 +1,4 @@
--- When the parser refuses words of which none begins with a hyphen: never, where the first names a subcommand.
+-- When the parser refuses words of which none begins with a hyphen: never, if the first names a subcommand.
 use Rattle.std.proofs.{lemmas.Grind.common_steps, Common.{◌≡◌, ◌<◌, ◌≤◌, Bool, true, false, List, [], ◌∷◌, ◌++◌, length, Option, Some}}
 use Rattle.std.proofs.Common.{None, is_some, option_map, refl, sym, subst, map, slice_get, ap, ap₂, ◌∙◌, arith, ◌^◌}
 use Rattle.std.proofs.lemmas.Option.{same_Some}
@@ -14,7 +14,7 @@ use Rattle.er_words.proofs.Walks.{AllPlain, plain_met, leaf_rule, leaf_rules, le
 use Rattle.er_words.proofs.Walks.{reading_words, first_word, next_word, leaf_walk, same_name, name_walked, whole_walk, entered_is}
 use Rattle.er_words.proofs.Walks.{subcommand_is, leaf_words}
 
--- a word with no hyphen in front is no flag
+-- a word with no hyphen in front isn't a flag
 turn_by : (n : Text) (w : Text) (h : Held) (waiting : Waiting) (met : Held × Step) → is_option w ≡ false → met ≡ (h, value)
     → or_else (other_fault (leaf_built n) None w h) (step_fault (leaf_built n) 1 met.0 met.1) ≡ step_fault (leaf_built n) 1 h value
 turn_by n w h waiting met plain is = grind (arith, common_steps)

@@ -4,7 +4,7 @@ use Rattle.er_words.specs.declared.usage.UsageFault.{UsageFault}
 use Rattle.er_words.specs.declared.usage.UsageFault.TheVariants.{TooFew, TooMany, BadNumber, BadSeed, BadCount, BadKind}
 use Rattle.er_words.specs.Kinds.{Kind, Text, SmallNumber, Number, Seed, Count, ListKind, value_of}
 
--- this fault, where there is no value
+-- this fault, if there is no value
 abbrev pub unless : {V : Type 0} → Option V → UsageFault → Option UsageFault
 unless (Some value) fault = None
 unless None fault = Some fault
@@ -18,7 +18,7 @@ word_fault Seed place word = unless (value_of Seed word) (BadSeed place)
 word_fault Count place word = unless (value_of Count word) (BadCount place)
 word_fault ListKind place word = unless (value_of ListKind word) (BadKind place)
 
--- the first of the two, where there is one
+-- the first of the two, if there is one
 abbrev pub or_then : Option UsageFault → Option UsageFault → Option UsageFault
 or_then (Some fault) later = Some fault
 or_then None later = later

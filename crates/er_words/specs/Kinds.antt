@@ -22,7 +22,7 @@ ValueOf Seed = List ℕ
 ValueOf Count = ℕ
 ValueOf ListKind = ExportKind
 
--- the value that a word is, if it is of this kind
+-- a word as a value, if it is of this kind
 abbrev pub value_of : (kind : Kind) → List ℕ → Option (ValueOf kind)
 value_of Text word = Some word
 value_of SmallNumber word = number_below 256 word
@@ -36,13 +36,13 @@ abbrev pub ValuesOf : List Kind → Type 0
 ValuesOf [] = Unit {0}
 ValuesOf (kind ∷ kinds) = ValueOf kind × ValuesOf kinds
 
--- two values, where both are there
+-- two values, if both are there
 abbrev pub both : {A B : Type 0} → Option A → Option B → Option (A × B)
 both (Some a) (Some b) = Some (a, b)
 both (Some a) None = None
 both None b = None
 
--- the values that words are, if they are of these kinds, one each
+-- words as values, if they are of these kinds, one each
 abbrev pub values_of : (kinds : List Kind) → List (List ℕ) → Option (ValuesOf kinds)
 values_of [] [] = Some tt
 values_of [] (word ∷ words) = None

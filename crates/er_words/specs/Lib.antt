@@ -2,9 +2,9 @@
 --
 -- Values is what a word is: a number, a seed, a list, a score. Kinds is what words have to be, Faults what is at fault in words that have to be
 -- of kinds, and Taken how they are taken one after the other. Line has the subcommands, each with its name, the kinds of its words and its line,
--- and is what words mean; Fields is what a line of a script is, and Usage what is at fault in words that are no line.
+-- and is what words mean; Fields is what a line of a script is, and Usage what is at fault in words that aren't a line.
 --
--- What private functions alone cite lies in `inside`.
+-- What only private functions cite lies in `inside`.
 --
 -- Which contract carries it:
 --   `read_words`, `read_line`: just what the words mean, or `Usage` with the first fault, exactly if they mean nothing. Words of which one
@@ -13,7 +13,8 @@
 --     one, or one too many.
 --   `name_of`: any word, to the byte.
 --
--- Each may be refused for memory. Whether a name or a score is lawful is no matter of words: er_event and er_rules say it.
+-- `read_words`, `read_line` and `name_of` may be refused for memory, and no other. Whether a name or a score is lawful is no
+-- matter of words: er_event and er_rules say it.
 --
 -- Wrong body that bears on the theorem: `swapped_words`.
 pub mod Values

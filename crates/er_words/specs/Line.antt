@@ -61,7 +61,7 @@ named_in (subcommand ∷ table) name = if bytes_eq name subcommand.name then Som
 abbrev pub subcommand_of : List ℕ → Option Subcommand
 subcommand_of = named_in subcommands
 
--- the line that the words after its name are
+-- the words after its name as a line
 abbrev pub line_by : Subcommand → List (List ℕ) → Option Line
 line_by subcommand words = option_map (made_of subcommand.kinds subcommand.line) (values_of subcommand.kinds words)
 

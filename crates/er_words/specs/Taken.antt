@@ -11,12 +11,12 @@ use Rattle.er_words.specs.declared.usage.UsageFault.TheVariants.{TooFew, TooMany
 abbrev pub lent : Bor (List (Bor (List ℕ))) → List (List ℕ)
 lent words = map (λ (word : Bor (List ℕ)). word.now) words.now
 
--- the first word is given with those behind it, or there is none
+-- the first word is given with those after it, or there is none
 abbrev pub TakesText : ℕ → List (List ℕ) → Result (Bor (List ℕ) × Bor (List (Bor (List ℕ)))) UsageFault → Type 0
 TakesText place words result =
     MatchResult result (λ it. words ≡ it.0.now ∷ lent it.1) (λ fault. (words ≡ []) × (fault ≡ TooFew place))
 
--- the first word is read, and the value is given with the words behind it; or there is none, or it has this fault
+-- the first word is read, and the value is given with the words after it; or there is none, or it has this fault
 abbrev pub Takes : {V : Type 0} → (List ℕ → Option V) → UsageFault → ℕ → List (List ℕ)
     → Result (V × Bor (List (Bor (List ℕ)))) UsageFault → Type 0
 Takes read bad place words result =

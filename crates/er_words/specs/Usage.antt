@@ -1,4 +1,4 @@
--- What is at fault in words that are no line: the first thing that is.
+-- What is at fault in words that aren't a line: the first thing that is.
 use Rattle.std.specs.Prelude.{◌≡◌, ℕ, List, Option, Some, None, Result, Ok, Err}
 use Rattle.std.specs.List.{position}
 use Rattle.er_words.specs.declared.usage.UsageFault.{UsageFault}
@@ -17,7 +17,7 @@ fault_by (Some subcommand) words = values_fault subcommand.kinds 1 words
 abbrev pub named_fault : List ℕ → List (List ℕ) → Option UsageFault
 named_fault name words = fault_by (subcommand_of name) words
 
--- of words that are split behind the first
+-- of words that are split after the first
 abbrev pub split_fault : Option (List ℕ × List (List ℕ)) → Option UsageFault
 split_fault None = Some UnknownSubcommand
 split_fault (Some split) = named_fault split.0 split.1

@@ -1,4 +1,4 @@
--- The value that a word is.
+-- Words as values.
 use Rattle.std.specs.Prelude.{ℕ, ◌+◌, ◌*◌, ◌==◌, nat_lt, ◌&&◌, if◌then◌else◌, List, [], ◌∷◌, length, Option, Some, None, option_and_then}
 use Rattle.std.specs.Prelude.{codes}
 use Rattle.std.specs.List.{list_all}
@@ -8,13 +8,13 @@ use Rattle.er_words.specs.declared.values.ExportKind.TheVariants as kind
 use Rattle.std.specs.Char.{is_ascii_digit, is_ascii_hexdigit, digit_value}
 use Rattle.std.specs.Str.Parse.{digits_value}
 
--- the number below the limit that a word of digits is
+-- a word of digits as a number below the limit
 abbrev pub number_below : ℕ → List ℕ → Option ℕ
 number_below limit word =
     if nat_lt 0 (length word) && list_all is_ascii_digit word && nat_lt (digits_value 10 word) limit
     then Some (digits_value 10 word) else None
 
--- the number of connections that a word is: from 1 to a million
+-- a word as a number of connections, from 1 to a million
 abbrev pub count_of : List ℕ → Option ℕ
 count_of word = option_and_then (λ count. if nat_lt 0 count then Some count else None) (number_below 1000001 word)
 
@@ -23,7 +23,7 @@ abbrev pub hex_bytes : List ℕ → List ℕ
 hex_bytes (high ∷ low ∷ rest) = (16 * digit_value high + digit_value low) ∷ hex_bytes rest
 hex_bytes _ = []
 
--- the seed that 64 hexadecimal digits are, small or capital
+-- 64 hexadecimal digits as a seed, small or capital
 unfoldable pub seed_of : List ℕ → Option (List ℕ)
 seed_of word = if length word == 64 && list_all is_ascii_hexdigit word then Some (hex_bytes word) else None
 

@@ -1,3 +1,3 @@
--- What private functions alone cite.
+-- What only private functions cite.
 pub mod Words
 pub mod Usage

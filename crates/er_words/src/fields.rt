@@ -32,7 +32,7 @@ fn words_of<'a>(
     Ok(words)
 }
 
-/// The command line that a line of a script stands for. One that is no text has no words.
+/// Reads the command line that a line of a script stands for. One that isn't text has no words.
 pub fn read_line(alloc: Global, line: &[u8]) -> Result<Line, LineFault>
     ensures { ReadsWords (script_words line.now) result }
 {

@@ -1,4 +1,4 @@
-//! The words of command lines and the lines of scripts: reads what each asks for, and says which word is at fault where it asks for
+//! The words of command lines and the lines of scripts: reads what each asks for, and says which word is at fault if it asks for
 //! nothing.
 #![tactic(auto)]
 

@@ -14,7 +14,7 @@ use std::alloc::{AllocError, Global};
 use std::convert::AsStr;
 use thiserror::Error;
 
-/// What a command line asks for. Each has the file of its event; a name may be unlawful, and a number one that the event has not.
+/// What a command line asks for. Each has the file of its event; a name may be unlawful, and a number one that the event doesn't have.
 #[derive(Debug, Drop)]
 pub enum Line {
     Init {
@@ -94,7 +94,7 @@ pub enum Line {
 /// Why a line was not read.
 #[derive(Clone, Copy, Debug, PartialEq, Eq, Error)]
 pub enum LineFault {
-    /// It is no command line, and this is why.
+    /// It isn't a command line, and this is why.
     #[error(transparent)]
     Usage(UsageFault),
     /// There was no memory to keep it.
@@ -124,7 +124,7 @@ impl From<UsageFault> for LineFault {
     }
 }
 
-/// The words `FILE`.
+/// Reads the words `FILE`.
 fn read_file(alloc: Global, words: &[&str]) -> Result<FilePath, LineFault>
     ensures { ReadsAs file_kinds (λ file. file) (map (λ word. word.now) words.now) result }
 {
@@ -133,7 +133,7 @@ fn read_file(alloc: Global, words: &[&str]) -> Result<FilePath, LineFault>
     Ok(FilePath::from_str(alloc, file)?)
 }
 
-/// The words `FILE ROUND TABLE X Y D`.
+/// Reads the words `FILE ROUND TABLE X Y D`.
 fn read_report(alloc: Global, words: &[&str]) -> Result<(FilePath, u8, u16, Games), LineFault>
     ensures { ReadsAs report_kinds (with_games report) (map (λ word. word.now) words.now) result }
 {
@@ -263,7 +263,7 @@ fn read_serve(alloc: Global, words: &[&str]) -> Result<Line, LineFault>
     })
 }
 
-/// The line of the subcommand that has this name, by the words after it.
+/// Reads the line of the subcommand with this name, by the words after it.
 fn read_named(alloc: Global, name: &str, words: &[&str]) -> Result<Line, LineFault>
     ensures { ReadsNamed name.now (map (λ word. word.now) words.now) result }
 {
@@ -317,7 +317,7 @@ fn read_named(alloc: Global, name: &str, words: &[&str]) -> Result<Line, LineFau
     }
 }
 
-/// Refuses words of which one begins with `-`, in any place.
+/// Refuses words if one of them begins with `-`, in any place.
 fn refuse_option<S: AsStr>(words: &[S]) -> Result<(), UsageFault>
     ensures { MatchResult result (λ _. position is_option (map S.text words.now) ≡ None)
         (λ why. (place : ℕ) × (position is_option (map S.text words.now) ≡ Some place)

@@ -1,7 +1,7 @@
 use std::alloc::{AllocError, Global};
 use std::marker::Model;
 
-/// Where a file is, as a word names it. Any text is one, also one that names no file.
+/// Where a file is, as a word names it. Any text is one, even one that names no file.
 #[derive(Debug, Drop)]
 pub struct FilePath {
     text: String,

@@ -24,21 +24,21 @@ pub enum UsageFault {
     /// The word at this place is more than the subcommand takes.
     #[error("word {place} is a word too many")]
     TooMany { place: usize },
-    /// The word at this place is no number from 0 to `most`.
+    /// The word at this place isn't a number from 0 to `most`.
     #[error("word {place} is no whole number from 0 to {most}")]
     BadNumber { place: usize, most: u16 },
     /// The word at this place isn't 64 hexadecimal digits.
     #[error("word {place} is not 64 hexadecimal digits")]
     BadSeed { place: usize },
-    /// The word at this place is no number of connections.
+    /// The word at this place isn't a number of connections.
     #[error("word {place} is no whole number from 1 to {MAX_CONNECTIONS}")]
     BadCount { place: usize },
-    /// The word at this place is no kind of list.
+    /// The word at this place isn't a kind of list.
     #[error("word {place} is no kind of list: players or results")]
     BadKind { place: usize },
 }
 
-/// The first of the words, which stands at this place of the line, and those behind it.
+/// Returns the first word, which stands at this place of the line, and the words after it.
 pub fn text<'a, 'b>(
     words: &'b [&'a str],
     place: usize,
@@ -51,7 +51,7 @@ pub fn text<'a, 'b>(
     Ok((*word, rest))
 }
 
-/// The number from 0 to 255 that the first of the words is.
+/// Parses the first word as a number from 0 to 255.
 pub fn small_number<'a, 'b>(
     words: &'b [&'a str],
     place: usize,
@@ -67,7 +67,7 @@ pub fn small_number<'a, 'b>(
     Ok((number, rest))
 }
 
-/// The number from 0 to 65,535 that the first of the words is.
+/// Parses the first word as a number from 0 to 65,535.
 pub fn number<'a, 'b>(
     words: &'b [&'a str],
     place: usize,
@@ -83,7 +83,7 @@ pub fn number<'a, 'b>(
     Ok((number, rest))
 }
 
-/// The seed that the first of the words is.
+/// Parses the first word as a seed.
 pub fn seed<'a, 'b>(
     words: &'b [&'a str],
     place: usize,
@@ -95,7 +95,7 @@ pub fn seed<'a, 'b>(
     Ok((seed, rest))
 }
 
-/// The number of connections that the first of the words is.
+/// Parses the first word as a number of connections.
 pub fn count<'a, 'b>(words: &'b [&'a str], place: usize) -> Result<(u32, &'b [&'a str]), UsageFault>
     ensures { Takes count_of (BadCount place) place (map (λ word. word.now) words.now) result }
 {
@@ -104,7 +104,7 @@ pub fn count<'a, 'b>(words: &'b [&'a str], place: usize) -> Result<(u32, &'b [&'
     Ok((count, rest))
 }
 
-/// The kind of list that the first of the words names.
+/// Parses the first word as a kind of list.
 pub fn list_kind<'a, 'b>(
     words: &'b [&'a str],
     place: usize,
@@ -116,7 +116,7 @@ pub fn list_kind<'a, 'b>(
     Ok((kind, rest))
 }
 
-/// There is no word at this place.
+/// Checks that there is no word at this place.
 pub fn end(words: &[&str], place: usize) -> Result<(), UsageFault>
     ensures { Ends place (map (λ word. word.now) words.now) result }
 {
@@ -126,7 +126,7 @@ pub fn end(words: &[&str], place: usize) -> Result<(), UsageFault>
     }
 }
 
-/// The games that the last three words of a line are: won by the player named first, won by the second, drawn.
+/// Parses the last three words of a line as games: won by the player named first, won by the second, drawn.
 pub fn score(words: &[&str]) -> Result<Games, UsageFault>
     ensures { ReadsScore (map (λ word. word.now) words.now) result }
 {

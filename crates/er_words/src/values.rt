@@ -16,7 +16,7 @@ pub enum ExportKind {
     Results,
 }
 
-/// The kind of list that a word names.
+/// Parses a word as a kind of list.
 pub fn kind_of(word: &str) -> Option<ExportKind>
     ensures { result ≡ kind_of word.now }
 {
@@ -36,7 +36,7 @@ fn is_number(word: &str) -> bool
     word.bytes().all(|byte| byte.is_ascii_digit())
 }
 
-/// The number from 0 to 255 that a word of digits is. A sign is no digit.
+/// Parses a word of digits as a number from 0 to 255. A sign isn't a digit.
 pub fn small_number_of(word: &str) -> Option<u8>
     ensures { result ≡ number_below 256 word.now }
 {
@@ -47,7 +47,7 @@ pub fn small_number_of(word: &str) -> Option<u8>
     }
 }
 
-/// The number from 0 to 65,535 that a word of digits is: of a player, a table or a port, whether there is one or not.
+/// Parses a word of digits as a number from 0 to 65,535: of a player, a table or a port, whether there is one or not.
 pub fn number_of(word: &str) -> Option<u16>
     ensures { result ≡ number_below 65536 word.now }
 {
@@ -68,7 +68,7 @@ fn large_number_of(word: &str) -> Option<u32>
     }
 }
 
-/// The number of connections that a word is, from 1 to 1,000,000.
+/// Parses a word as a number of connections, from 1 to 1,000,000.
 pub fn count_of(word: &str) -> Option<u32>
     ensures { result ≡ count_of word.now }
 {
@@ -80,14 +80,14 @@ pub fn count_of(word: &str) -> Option<u32>
     }
 }
 
-/// The seed that a word is: 64 hexadecimal digits, small or capital, two for each byte.
+/// Parses a word as a seed: 64 hexadecimal digits, small or capital, two for each byte.
 pub fn seed_of(word: &str) -> Option<[u8; 32]>
     ensures { result ≡ seed_of word.now }
 {
     <[u8; 32]>::from_hex(word).ok()
 }
 
-/// The name that a word is, whether it is lawful or not.
+/// Reads a word as a name, whether it is lawful or not.
 pub fn name_of(alloc: Global, word: &str) -> Result<Items<u8>, AllocError>
     ensures { IfOk result (λ bytes. bytes ≡ word.now) }
 {

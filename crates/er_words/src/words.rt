@@ -9,7 +9,7 @@ use clap::{Arg, ArgMatches, Command, Error};
 use std::alloc::{AllocError, Global};
 use std::convert::AsStr;
 
-/// Whether a word asks for an option. There are none.
+/// Whether a word asks for an option. No subcommand takes one.
 fn is_option(word: &str) -> bool
     ensures { result ≡ is_option word.now }
 {
@@ -23,7 +23,7 @@ pub fn option_at<S: AsStr>(words: &[S]) -> Option<usize>
     words.iter().position(|word| is_option(word.as_str()))
 }
 
-/// A parser that knows this subcommand alone, since one of all seventeen takes most of a line's time. It takes any number of words, which
+/// A parser that knows only this subcommand, since one of all seventeen takes most of a line's time. It takes any number of words, which
 /// are counted and read elsewhere.
 fn command<'a>(alloc: Global, name: &'a str) -> Result<Command<'a>, AllocError>
     ensures { IfOk result (λ made. app_of made ≡ program name.entry.now) }
@@ -37,7 +37,7 @@ fn command<'a>(alloc: Global, name: &'a str) -> Result<Command<'a>, AllocError>
         .subcommand(leaf)
 }
 
-/// Hands on that the parser had no memory.
+/// Passes on that the parser ran out of memory.
 fn want_of_memory(error: Error) -> Result<(), AllocError>
     ensures { IsOk result → kind_of error ≢ ErrorKind.OutOfMemory }
 {

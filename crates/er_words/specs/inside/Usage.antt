@@ -16,6 +16,6 @@ ReadsAs kinds made words = IsReadAs (option_map (made_of kinds made) (values_of 
 abbrev pub report : List ℕ → ℕ → ℕ → Games → List ℕ × ℕ × ℕ × Games
 report file round table score = (file, round, table, score)
 
--- they are read as the line that they are behind this name
+-- they are read as the line that they are after this name
 abbrev pub ReadsNamed : List ℕ → List (List ℕ) → Result Line LineFault → Type 0
 ReadsNamed name words = IsReadAs (named_line name words) (named_fault name words)

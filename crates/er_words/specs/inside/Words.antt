@@ -21,6 +21,6 @@ bare = record (new_app (codes "event_reporter")) {
 abbrev pub program : Text → App
 program name = with_subcommand bare (leaf name)
 
--- the words that the parser found behind a subcommand's name
+-- the words that the parser found after a subcommand's name
 abbrev pub words_in : List Row → List Text
 words_in rows = unwrap_or (all_of (codes "words") rows) []
