@@ -1,4 +1,4 @@
--- An event with one more round is sound exactly where its checks hold.
+-- An event with one more round is sound exactly if its checks hold.
 use Rattle.er_event.proofs.Prelude.{with_round, EventValue, is_complete, is_same_pairing, matches_of, seats, AreRounds, IsRound}
 use Rattle.er_event.proofs.Prelude.{IsSoundButForSeeds, numbers, Phase, Enrolling, Swiss, Match, Round, MayFollow, All, AllPairs, Bool}
 use Rattle.er_event.proofs.Prelude.{IsFalse, IsTrue, List, [], ap, arith, false, flat_map, get_or, length, length-append, not, refl, subst}

@@ -17,7 +17,7 @@ names-dropped : (k : ℕ) (ps : List Player) → names (map (dropped_at k) ps) �
 names-dropped k [] = refl
 names-dropped k (p ∷ ps) = grind (arith, common_steps, names-dropped k ps)
 
--- where the players are numbered, the numbers are those from 1 to their count
+-- if the players are numbered, the numbers are those from 1 to their count
 pub Contains-numbered : (ps : List Player) (k : ℕ) → numbers ps ≡ range_with_len 1 (length ps) → 1 ≤ k → k ≤ length ps
     → Contains (numbers ps) k
 Contains-numbered ps k numbered low high =
@@ -108,7 +108,7 @@ pub early-All : (ps : List Player) → All (λ (p : Player). p.joined ≡ 0) ps 
 early-All ps h = list_all-from_AllPass (λ (p : Player). p.joined == 0) ps
     (λ k d below. let here = h k d below in grind (arith, nat_tests))
 
--- an event whose rounds are not paired goes back to enrolling where nobody is dropped
+-- an event whose rounds are not paired goes back to enrolling if nobody is dropped
 pub IsSound-enrolling : (e : EventValue) → IsSoundButForSeeds e → e.phase ≡ Swiss → e.stored ≡ []
     → All (λ (p : Player). IsFalse p.dropped) e.players → IsSoundButForSeeds (with_phase e Enrolling)
 IsSound-enrolling e h swiss none undropped = record {
@@ -133,7 +133,7 @@ found-step : (b : Bool) (q p : Player) (ps : List Player) (found : Option Player
 found-step true q p ps found rest is = let same : q.no ≡ p.no = ap (λ (o : Option Player). (unwrap_or o q).no) is in (0, omega arith, same)
 found-step false q p ps found rest is = let has = rest is in (suc has.0, omega (arith, has.1), has.2)
 
--- where players are numbered from k, the one of a number stands at its place
+-- if players are numbered from k, the one of a number stands at its place
 pub find-numbered : (k : ℕ) (ps : List Player) (n : ℕ) → numbers ps ≡ range_with_len k (length ps) → k ≤ n
     → find (λ (p : Player). p.no == n) ps ≡ slice_get ps (n - k)
 find-numbered k [] n numbered low = sym (slice_get_past [] (n - k) (omega arith))

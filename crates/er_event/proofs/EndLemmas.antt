@@ -10,7 +10,7 @@ use Rattle.std.proofs.{Math.Bool.beq, lemmas.List.set-append_left}
 use Rattle.er_event.proofs.{BracketLemmas.Lawful, PlayoffLemmas.in_playoff, SlotLemmas.{slots-refl, winners-length}}
 use Rattle.er_event.proofs.SlotScoreLemmas.{FoundSlot, all-at, found-slot, new_stage, new_stage-is, over}
 
--- ---- the copy of a stage, with open matches behind it
+-- ---- the copy of a stage, with open matches after it
 
 pub set-copy : (stage copied rest : List Match) (at : ℕ) (m : Match) → copied ≡ stage → at < length stage
     → take (length stage) (set (copied ++ rest) at m) ≡ set stage at m

@@ -302,7 +302,7 @@ pub missed_once_complete : map (totals over) (1 ∷ 2 ∷ 3 ∷ 4 ∷ 5 ∷ 6 �
     ≡ sum 3 1 6 3 ∷ sum 0 1 0 2 ∷ sum 0 1 3 3 ∷ sum 3 1 6 2 ∷ sum 0 1 0 0 ∷ sum 0 0 0 0 ∷ []
 missed_once_complete = refl
 
--- a round that was missed is no result: it counts as a round, and earns nothing
+-- a round that was missed isn't a result: it counts as a round, and earns nothing
 pub missed_round : (results_of over 5 ≡ []) × (missed_rounds over 5 ≡ 1) × (totals over 5 ≡ sum 0 1 0 0)
 missed_round = (refl, refl, refl)
 

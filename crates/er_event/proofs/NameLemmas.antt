@@ -19,7 +19,7 @@ pub is_ok-when : {A E : Type 0} (P : A → Type 0) (Q : E → Type 0) (U : Type 
 is_ok-when P Q U (Ok s) h = (λ _. h.1, λ _. refl)
 is_ok-when P Q U (Err e) h = (λ ok. absurd (true≢false (sym ok)), λ u. absurd (h.0 u))
 
--- zeros in whose first places a lawful name was put are the name with zeros behind it
+-- if a lawful name is put in the first places of zeros, they are the name with zeros after it
 pub IsStored-name : (name copied : List ℕ) → copied ≡ name → IsTrue (is_lawful_name name)
     → let bytes = copied ++ drop (length name) (replicate 60 0) in
     (bytes ≡ name_with_zeros (take (length name) bytes)) × (length (take (length name) bytes) ≡ length name)

@@ -7,7 +7,7 @@ use Rattle.std.proofs.lemmas.Bool.{cases_eq}
 use Rattle.er_event.proofs.{MissedLemmas.{missed-few, totals-split}, TotalLemmas.{absent, apart_at, one_match}}
 use Rattle.er_event.specs.{Tallies.AreReadable, inside.Seen.AreFew}
 
--- no more than so many games of each kind
+-- at most three games of each kind
 abbrev HasFew : Match → Type 0
 HasFew m = IfSome m.score AreFew
 
@@ -46,7 +46,7 @@ rounds-over player n (r ∷ later) all =
     let more = rounds-over player (n + 1) later (λ k d below. all (suc k) d (omega arith)) in
     grind (arith, common_steps)
 
--- the matches alone
+-- only the matches
 pub played-over : (e : EventValue) → IsSoundButForSeeds e → (player : ℕ)
     → AreOver (length e.stored) (totals_of (results_from player 1 e.stored))
 played-over e sound player = rounds-over player 1 e.stored

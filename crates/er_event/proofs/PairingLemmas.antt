@@ -21,7 +21,7 @@ columns a b = (a.round, b.round) ∷ (a.tab, b.tab) ∷ (a.lo, b.lo) ∷ (a.hi, 
 pub same_rows : (a b : PairingRow) → Decides (agree (columns a b)) (a ≡ b)
 same_rows a b = let each = agree-Decides (columns a b) in (λ is. (let same = each.0 is in grind arith), λ e. each.1 (grind arith))
 
--- what stands at a place that there is not
+-- what stands at a place that isn't there
 abbrev pub nothing : PairingRow
 nothing = record { round = pos 0; tab = pos 0; lo = pos 0; hi = pos 0; swapped = pos 0; done = pos 0; x = pos 0; y = pos 0; d = pos 0 }
 

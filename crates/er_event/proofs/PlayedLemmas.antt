@@ -182,7 +182,7 @@ over-weaker i j t low over = record {
   games = let h = over.games in omega arith;
 }
 
--- ---- which of the first rounds are complete, where none but the newest can be open
+-- ---- which of the first rounds are complete, if none but the newest can be open
 
 pub complete-min : (j n m : ℕ) (rs : List Round) → All (λ (r : Round). Counted r ≡ true) (take m rs) → j ≤ n → n ≤ m + 1 → n ≤ length rs
     → complete j rs ≡ min (complete n rs) j

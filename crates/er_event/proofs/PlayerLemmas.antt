@@ -1,4 +1,4 @@
--- An event with one more player is sound exactly where there is room and the name is new.
+-- An event with one more player is sound exactly if there is room and the name is new.
 use Rattle.er_event.proofs.Prelude.{has_name, with_player, EventValue, is_lawful_name, ArePlayers, AreRounds, AreStages, IsBracket, IsRound}
 use Rattle.er_event.proofs.Prelude.{IsSoundButForSeeds, names, numbers, Phase, Match, Player, Round, AllPairs, Bool, IsFalse, IsTrue, List}
 use Rattle.er_event.proofs.Prelude.{[], ap, arith, false, get_or, length, length-append, not, not-suc-le-zero, refl, suc, true, zero, ℕ}
@@ -41,7 +41,7 @@ length-names : (players : List Player) (new : Player) → length (names (players
 length-names [] new = refl
 length-names (p ∷ ps) new = ap suc (length-names ps new)
 
--- where all names differ, the last player's is new
+-- if all names differ, the last player's is new
 has_name-new : (players : List Player) (new : Player) → AllPairs (λ p q. p ≢ q) (names (players ++ new ∷ []))
     → has_name players new.name ≡ false
 has_name-new [] new distinct = refl
@@ -96,6 +96,6 @@ IsSound-with e name h lawful room new =
       bracket = rw listed (stages-known e.phase e.cut (numbers e.players) (p.no ∷ []) e.bracket.stages h.bracket);
     }
 
--- and the name was new, where that is so
+-- and the name was new, if that is so
 pub IsSound-new : (e : EventValue) (name : List ℕ) → IsSoundButForSeeds (with_player e name) → IsTrue (not (has_name e.players name))
 IsSound-new e name h = ap not (has_name-new e.players (new_player e name) h.players.distinct)

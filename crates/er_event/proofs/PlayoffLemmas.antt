@@ -1,4 +1,4 @@
--- An event whose playoff begins, or has one more score, is sound exactly where its checks hold.
+-- An event whose playoff begins, or has one more score, is sound exactly if its checks hold.
 use Rattle.er_event.proofs.Prelude.{FollowOn, IsDecided, SameSlots, last_match, next_stage, Fits, EventValue, is_complete, IsBracket}
 use Rattle.er_event.proofs.Prelude.{IsPlayoff, IsSoundButForSeeds, is_lawful_cut, numbers, AddBracket, Phase, Enrolling, Finished, Match}
 use Rattle.er_event.proofs.Prelude.{Bool, List, None, Some, [], ap, arith, drop, inl, inr, length, not, refl, subst, suc, sym, true, zero}
@@ -7,7 +7,7 @@ use Rattle.er_event.proofs.Prelude.{none-some, same_Some, AllByRecursion, slice_
 use Rattle.er_event.proofs.{BracketLemmas.Lawful, SlotLemmas.{follow-split, last-after, same-seats, slots-refl}}
 use Rattle.er_event.specs.{Change.{IsOpening, with_bracket}, Sound.AllRoundsDone, declared.events.Phase.TheVariants.Playoff}
 
--- ---- stages of which one has new scores, with more behind
+-- ---- stages of which one has new scores, with more after it
 
 same-trans : (ks ms ns : List Match) → SameSlots ks ms → SameSlots ms ns → SameSlots ks ns
 same-trans ks ms ns a b = (same-seats ks ns).1 ((same-seats ks ms).0 a ∙ (same-seats ms ns).0 b)
@@ -84,7 +84,7 @@ module _ (e : EventValue) (p : Phase) (stages : List (List Match)) where
         bracket = grind arith;
       }
 
--- stages that follow on one another end, so that no stage comes behind them
+-- stages that follow on one another end, so that no stage comes after them
 pub follow-never : (l : List Match) (later : List (List Match)) (ns : List Match) → FollowOn (l ∷ later)
     → FollowOn (l ∷ (later ++ ns ∷ [])) → ⊥
 follow-never l [] ns f h = let one = f h.0 in let two = h.1 in omega arith

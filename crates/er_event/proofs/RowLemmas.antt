@@ -32,7 +32,7 @@ module _ {E : Type 0} (n : ℕ) (z : ℤ) (r : Result ℕ E) (o : Option ℕ) (i
       let same = ap (λ (z : ℤ). to_z w64 (of_z w64 z)) shows ∙ to_z_pos w64 n (omega arith) in
       is ∙ ap result_ok (Ok-from_Ok_iff r (n < 2 ^ bits) n (rw same at reads) fits)
 
-  -- a column that shows a number is read as the number, where it fits 8 bits, or 16
+  -- a column that shows a number is read as the number, if it fits 8 bits, or 16
   pub read_8 : OkIff r (FitsUnsignedBits 8 (to_z w64 (of_z w64 z))) (nat_abs (to_z w64 (of_z w64 z))) → n < 256 → o ≡ Some n
   read_8 reads fits = column_read 8 reads fits (omega arith)
 

@@ -1,4 +1,4 @@
--- An event with one score set anew is sound exactly where the score is lawful.
+-- An event with one score set anew is sound exactly if the score is lawful.
 use Rattle.er_event.proofs.Prelude.{Fits, score_table, match_with_score, with_score, EventValue, is_bye, is_complete, match_at, match_in}
 use Rattle.er_event.proofs.Prelude.{matches_of}
 use Rattle.er_event.proofs.Prelude.{enumerate_from, seats, bye_score, is_swiss_score, AreRounds, IsRound, IsSoundButForSeeds, numbers}

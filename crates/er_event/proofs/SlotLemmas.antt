@@ -56,7 +56,7 @@ module _ (ms ns : List Match) (half : length ns ≡ length ms / 2) (i : ℕ) whe
 
 -- ---- stage by stage
 
--- what is behind a stage fits it
+-- what comes after a stage fits it
 abbrev pub Stands : List Match → Option (List Match) → Type 0
 Stands stage None = IsTrue (is_complete stage) → length stage ≡ 1
 Stands stage (Some next) = IsTrue (is_complete stage) × (1 < length stage) × SameSlots next (next_stage stage)

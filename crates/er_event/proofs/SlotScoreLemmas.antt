@@ -1,4 +1,4 @@
--- An event whose playoff has one more score is sound exactly where the changed stage fits what stands behind it.
+-- An event whose playoff has one more score is sound exactly if the changed stage fits what comes after it.
 use Rattle.er_event.proofs.Prelude.{FollowOn, IsDecided, SameSlots, stage_after, is_over, last_match, next_stage, open_match, slot_at, Fits}
 use Rattle.er_event.proofs.Prelude.{IsEnd, one_more, match_with_score, scored_slot, stage_of, EventValue, is_complete, is_playoff_score}
 use Rattle.er_event.proofs.Prelude.{IsBracket}
@@ -16,7 +16,7 @@ use Rattle.er_event.proofs.SlotLemmas.{length-same, same-seats, slots-refl}
 abbrev AllLawful : List Match → Type 0
 AllLawful ms = All Lawful ms
 
--- ---- one stage anew, and more behind the last
+-- ---- one stage anew, and more after the last
 
 module _ (e : EventValue) (k : ℕ) (old new : List Match) (at : slice_get e.bracket.stages k ≡ Some old) (same : SameSlots new old)
     (h : IsSoundButForSeeds e) where
@@ -185,7 +185,7 @@ module _ (e : EventValue) (stage slot : ℕ) (score : Games) (m : Match) (is : s
     pub fits-playoff : Fits e (SetBracketScore stage slot score next finished) → is_playoff_score score ≡ true
     fits-playoff fits = new-lawful (new-Fits fits).lawful
 
-    -- where it is the last stage
+    -- if it is the last stage
     module _ (last : behind ≡ []) (now_over : Bool) (ended : IsTrue now_over ↔ (p ≡ Finished)) where
       pub Fits-last : is_playoff_score score ≡ true → IsEnd new_stage next now_over
           → Fits e (SetBracketScore stage slot score next finished)
@@ -203,7 +203,7 @@ module _ (e : EventValue) (stage slot : ℕ) (score : Games) (m : Match) (is : s
         decided = (λ yes. decided.0 (ended.0 yes), λ dec. ended.1 (decided.1 dec));
       }
 
-  -- where a stage stands behind it
+  -- if a stage comes after it
   module _ (l : List Match) (rest : List (List Match)) (there : behind ≡ l ∷ rest) where
     follow-there : FollowOn (old ∷ l ∷ rest)
     follow-there = rw there at behind-follows

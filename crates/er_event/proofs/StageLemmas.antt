@@ -12,7 +12,7 @@ columns a b = (a.stage, b.stage) ∷ (a.slot, b.slot) ∷ (a.a, b.a) ∷ (a.b, b
 pub same_rows : (a b : BracketRow) → Decides (agree (columns a b)) (a ≡ b)
 same_rows a b = let each = agree-Decides (columns a b) in (λ is. (let same = each.0 is in grind arith), λ e. each.1 (grind arith))
 
--- what stands at a place that there is not
+-- what stands at a place that isn't there
 abbrev pub nothing : BracketRow
 nothing = record { stage = pos 0; slot = pos 0; a = pos 0; b = pos 0; done = pos 0; x = pos 0; y = pos 0; d = pos 0 }
 

@@ -48,12 +48,12 @@ found-bye : (ms : List Match) (m : Match) → find (λ (k : Match). k.b == 0) ms
 found-bye [] m is = absurd (none-some m is)
 found-bye (n ∷ ms) m is = grind (arith, common_steps, found-bye ms m)
 
--- a match that is no bye is at the place of its table
+-- a match that isn't a bye is at the place of its table
 pub at-place : (ms : List Match) (t : ℕ) (m : Match) → match_in ms t ≡ Some m → is_bye m ≡ false → (1 ≤ t) × (slice_get ms (t - 1) ≡ Some m)
 at-place ms zero m is seat = absurd (true≢false (sym (found-bye ms m (sym (match_in-bye ms) ∙ is)) ∙ seat))
 at-place ms (suc t) m is seat = (omega arith, seated-is (slice_get ms (suc t - 1)) m (sym (match_in-place ms (suc t) (omega arith)) ∙ is))
 
--- ---- and it alone gets the score
+-- ---- and only it gets the score
 
 module _ (t : ℕ) (s : Games) where
   kept : (m : Match) (b : Bool) → b ≡ false → cond b (match_with_score s m) m ≡ m

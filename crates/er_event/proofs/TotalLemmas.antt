@@ -1,4 +1,4 @@
--- Where nobody sits twice, a player has one match of a round alone; the rounds add up.
+-- If nobody sits twice, a player has only one match of a round; the rounds add up.
 use Rattle.er_event.proofs.Prelude.{open_match, match_with_score, scored_slot, results_by, results_from, complete_results, results_of_match}
 use Rattle.er_event.proofs.Prelude.{IsAbsent, Match, Round, Games, IsSeatedOnce, rounds_with_score, All}
 use Rattle.er_event.proofs.Prelude.{AllPairs, List, Option, [], ap, arith, flat_map, get_or, length, refl, subst, suc, sym, take, zero, ℕ}

@@ -1,4 +1,4 @@
--- Tables of a version keep what a change that they can take makes of an event.
+-- Tables of a version that keep an event, and can take a change of it, keep the event after it.
 use Rattle.er_event.proofs.Prelude.{SetDropped, Player, dropped_at, EventValue, All-push, ap, get_or, length, refl, ◌≡◌, ℕ}
 use Rattle.std.proofs.lemmas.List.Elements.{All-map}
 use Rattle.er_event.specs.{Change.{after, new_player}, Version.{CanTake, ChangesAreKept, KeepsPlayers}, Sound.IsSoundButForSeeds}

@@ -1,4 +1,4 @@
--- The players whose totals a change alters.
+-- Whether a change may alter any totals, and whose match it corrects.
 use Rattle.std.specs.Prelude.{ℕ, ◌-◌, ◌==◌, ◌&&◌, ◌||◌, Bool, false, List, [], slice_index_or, is_some, Contains, ◌≡◌}
 use Rattle.std.specs.Option.{option_map_or}
 use Rattle.er_event.specs.declared.changes.Change.{Change}

@@ -21,7 +21,7 @@ abbrev pub winner_with : Match → Option Games → ℕ
 winner_with m None = 0
 winner_with m (Some s) = winner_by m s
 
--- the player who won the match, 0 where it is open
+-- the player who won the match, 0 if it is open
 abbrev pub winner : Match → ℕ
 winner m = winner_with m m.score
 
@@ -38,14 +38,14 @@ SameSlots (m ∷ ms) (n ∷ ns) = ((m.a ≡ n.a) × (m.b ≡ n.b)) × SameSlots 
 SameSlots [] (n ∷ ns) = ⊥
 SameSlots (m ∷ ms) [] = ⊥
 
--- a next stage stands exactly where the stage before is complete and has more than one slot
+-- a next stage stands exactly if the stage before is complete and has more than one slot
 abbrev pub FollowOn : List (List Match) → Type 0
 FollowOn [] = Unit {0}
 FollowOn (last ∷ []) = IsTrue (is_complete last) → length last ≡ 1
 FollowOn (stage ∷ next ∷ more) = IsTrue (is_complete stage) × (1 < length stage) × SameSlots next (next_stage stage)
     × FollowOn (next ∷ more)
 
--- the final: the only match of the last stage, where that has one slot
+-- the final: the only match of the last stage, if that has one slot
 abbrev pub last_match : List (List Match) → Option Match
 last_match [] = None
 last_match ([] ∷ []) = None
@@ -74,7 +74,7 @@ slot_in stages stage slot =
 abbrev pub slot_at : EventValue → ℕ → ℕ → Option Match
 slot_at event stage slot = slot_in event.bracket.stages stage slot
 
--- the stage of the winners, where this one is complete and has more than one slot
+-- the stage of the winners, if this one is complete and has more than one slot
 abbrev pub stage_after : List Match → Option (List Match)
 stage_after stage = if is_complete stage && nat_lt 1 (length stage) then Some (next_stage stage) else None
 

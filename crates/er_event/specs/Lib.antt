@@ -4,13 +4,14 @@
 -- say what matches are, and Sound puts all of it together: what is true of every event, but for who is seeded where.
 -- Change says when a change fits, and the event after it; Safe, which changes keep an event sound, but for its seeds.
 -- Results are the rounds that a player has played, and has missed, and Totals count them; Tallies are the totals of all, and
--- who met whom; Altered is whose totals a change alters; Slip is one match with its names.
+-- who met whom; Altered says whether a change may alter any totals, and whose match it corrects;
+-- Slip is one match with its names.
 --
 -- Rows are the rows of the five tables that an event has, and Version says which events each version of the tables can
 -- keep. Pairings and Parts read the rows back: the event that they stand for, or the first table at fault. Refusal
 -- numbers and names the thirty refusals.
 --
--- What private functions alone cite lies in `inside`.
+-- What only private functions cite lies in `inside`.
 --
 -- Which contract carries it; 'sound' leaves out the seeds of the playoff:
 --   The invariant of `Event`, which `laws::events_are_sound` repeats: no value of the type is unsound.
@@ -22,6 +23,7 @@
 --     bracket; memory aside.
 --   `totals`, `all_totals`, and both after a change: what a player has from the complete rounds, with no memory. `has_tallies` says exactly
 --     whether rows of totals are the event's; `may_alter_totals`: if not, a change leaves the totals of each player.
+--     `corrects`: exactly whether a change replaces a score of a match of this player.
 --   `Refusal::number`, `name`, `Display`: the number and the name of each refusal, and how it is shown.
 --
 -- Not promised: that a playoff has the seeds of the standings (`IsSound` of er_rules).

@@ -6,7 +6,7 @@ use Rattle.er_event.specs.declared.scores.Games.{Games}
 use Rattle.er_event.specs.Score.{is_swiss_score, is_playoff_score}
 use Rattle.er_event.specs.Round.{is_bye}
 
--- one of so many players, who are numbered from 1
+-- one of `count` players, who are numbered from 1
 abbrev pub is_known : ℕ → ℕ → Bool
 is_known count number = nat_le 1 number && nat_le number count
 

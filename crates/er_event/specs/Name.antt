@@ -14,6 +14,6 @@ is_lawful_name name =
     nat_le 1 (length name) && nat_le (length name) MAX_NAME_BYTES && is_utf8 name && list_all is_plain_byte name
     && not (slice_index_or name 0 0 == 32) && not (slice_index_or name (length name - 1) 0 == 32)
 
--- a name with zeros behind it, as many as it lacks of 60 bytes
+-- a name with zeros after it, as many as it lacks of 60 bytes
 abbrev pub name_with_zeros : List ℕ → List ℕ
 name_with_zeros name = name ++ replicate (MAX_NAME_BYTES - length name) 0

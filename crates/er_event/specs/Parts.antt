@@ -1,4 +1,4 @@
--- The event that rows stand for, and the first table at fault where there is none.
+-- The event that rows stand for, and the first table at fault if there is none.
 use Rattle.std.specs.Prelude.{◌≡◌, ◌≤◌, ℕ, List, [], ◌∷◌, All}
 use Rattle.er_event.specs.declared.commands.TheConstants.{MAX_SERIAL}
 use Rattle.er_event.specs.declared.refusals.Place.{Place}
@@ -28,7 +28,7 @@ pub record IsOf (parts : Parts) (e : EventValue) : Type 0 where
   pub low : serial ≤ MAX_SERIAL
   pub are : parts ≡ parts_of version e serial
 
--- the one row of the event's table is that of an event within the limits, of a version that keeps so many rounds
+-- the one row of the event's table is that of an event within the limits, of a version that keeps its number of rounds
 pub record IsEventRow (rows : List EventRow) (e : EventValue) : Type 0 where
   pub version : ℕ
   pub known : IsVersion version
@@ -64,5 +64,5 @@ IsFirstFault parts EventTable = (e : EventValue) → IsEventRow parts.event e �
 IsFirstFault parts PlayerTable = ((e : EventValue) × IsEventRow parts.event e) × ((e : EventValue) → HasPlayerRows parts e → ⊥)
 IsFirstFault parts PairingTable = ((e : EventValue) × HasPlayerRows parts e) × ((e : EventValue) → HasRoundRows parts e → ⊥)
 IsFirstFault parts BracketTable = ((e : EventValue) × HasRoundRows parts e) × ((e : EventValue) → HasAllRows parts e → ⊥)
--- the totals are no part of these rows
+-- the totals aren't part of these rows
 IsFirstFault parts TallyTable = ⊥

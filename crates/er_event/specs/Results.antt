@@ -43,7 +43,7 @@ results_of event player = flat_map (results_in player) (complete_rounds event)
 
 -- ---- the rounds that were missed
 
--- how many rounds were paired before the player of this number came, or 0 where there is no such player
+-- how many rounds were paired before the player of this number came, or 0 if there is no such player
 abbrev pub rounds_missed_of : List Player → ℕ → ℕ
 rounds_missed_of players number = option_map_or (λ (p : Player). p.joined) (find (λ (p : Player). p.no == number) players) 0
 

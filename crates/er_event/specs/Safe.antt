@@ -25,7 +25,7 @@ IsSafe event (AddRound matches) = IsNextRound event matches
 -- a stored match of two players, and a score that a Swiss match may end with
 IsSafe event (SetScore round table score) = NamesStored event (SetScore round table score) × IsTrue (is_swiss_score score)
 IsSafe event (AddBracket matches) = IsOpening event matches
--- an open slot, a score that a match of the playoff may end with, and the next stage, or the end, where the score
+-- an open slot, a score that a match of the playoff may end with, and the next stage, or the end, if the score
 -- completes the stage
 IsSafe event (SetBracketScore stage slot score next finished) =
     let played = scored_slot (stage_of event.bracket.stages stage) slot score in

@@ -31,6 +31,6 @@ slip_row event round table m = record {
   score = m.score;
 }
 
--- none where no such match is stored
+-- none if no such match is stored
 abbrev pub slip_of : EventValue → ℕ → ℕ → Option SlipRow
 slip_of event round table = option_map (slip_row event round table) (match_at event round table)

@@ -30,7 +30,7 @@ meeting_by come_to m = record {
   hi_totals = come_to (max m.a m.b);
 }
 
--- one for each match of the counted rounds, by round and table; a bye is no meeting
+-- one for each match of the counted rounds, by round and table; a bye isn't a meeting
 abbrev pub meetings : EventValue → List Meeting
 meetings event = map (meeting_by (totals event)) (filter (λ m. not (is_bye m)) (complete_matches event.stored))
 

@@ -12,7 +12,7 @@ use Rattle.er_event.specs.Sound.{IsSoundButForSeeds}
 abbrev pub IsVersion : ℕ → Type 0
 IsVersion version = (version ≡ 1) ⊎ (version ≡ 2)
 
--- tables of this version can keep so many rounds
+-- tables of this version can keep `rounds` rounds
 abbrev pub KeepsRounds : ℕ → ℕ → Type 0
 KeepsRounds version rounds = version ≡ 1 → rounds ≤ MOST_OLD_ROUNDS
 
@@ -25,12 +25,12 @@ pub record Keeps (version : ℕ) (e : EventValue) : Type 0 where
   pub rounds : KeepsRounds version e.rounds
   pub players : KeepsPlayers version e.players
 
--- tables of this version can take the change: a player comes into version 1 before the start alone
+-- tables of this version can take the change: a player comes into version 1 only before the start
 abbrev pub CanTake : ℕ → EventValue → Change → Type 0
 CanTake version e (AddPlayer name) = version ≡ 1 → e.phase ≡ Enrolling
 CanTake version e _ = Unit {0}
 
--- what a change that tables can take makes of an event that they keep, they keep too
+-- if tables keep an event and can take a change, they also keep the event after it
 abbrev pub ChangesAreKept : Type 0
 ChangesAreKept = (version : ℕ) (event : EventValue) (change : Change) → IsSoundButForSeeds event → CanTake version event change
     → Keeps version event → Keeps version (after event change)

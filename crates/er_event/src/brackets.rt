@@ -23,7 +23,7 @@ pub fn is_over(stage: &[Match]) -> bool
     is_complete(stage) && stage.len() == 1
 }
 
-/// Whether the stage may be the last: where it is complete, it was the final.
+/// Whether the stage may be the last: if it is complete, it was the final.
 pub(crate) fn may_be_last(stage: &[Match]) -> bool
     ensures { IsTrue result ↔ (IsTrue (is_complete stage.now) → length stage.now ≡ 1) }
 {
@@ -91,7 +91,7 @@ fn are_known(count: u16, first: &[Match]) -> bool
     first.iter().all(|played| is_known(count, played.a) && is_known(count, played.b))
 }
 
-/// Whether the stage has the slots for so many players, who are of the event, and sit in one slot each.
+/// Whether the stage has the slots for `cut` players, who are among the event's `count`, and sit in one slot each.
 fn is_first(count: u16, cut: u8, first: &[Match]) -> bool
     ensures { IsTrue result
         ↔ ((length first.now ≡ cut / 2)
@@ -104,7 +104,7 @@ fn is_first(count: u16, cut: u8, first: &[Match]) -> bool
     are_seated_once(first)
 }
 
-/// Whether the stages may be the bracket of so many players, of whom this many play it.
+/// Whether the stages may be the bracket of an event of `count` players, of whom `cut` play it.
 pub(crate) fn is_bracket(count: u16, cut: u8, stages: &[Items<Match>]) -> bool
     ensures { IsTrue result ↔ IsBracket (range_with_len 1 count) cut stages.now }
 {

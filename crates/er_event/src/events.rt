@@ -52,7 +52,7 @@ impl Phase {
     }
 }
 
-/// Whether an event may be set up with so many Swiss rounds and this cut.
+/// Whether an event may be set up with `rounds` Swiss rounds and this cut.
 pub(crate) fn is_setup(rounds: u8, cut: u8) -> bool
     ensures { IsTrue result ↔ AreLimits rounds cut }
 {
@@ -121,8 +121,8 @@ impl Event {
         self.rounds
     }
 
-    /// How many players go to the playoff, or 0 where there is none. Once all Swiss rounds are complete, the playoff may begin with a stage
-    /// of so many.
+    /// How many players go to the playoff, or 0 if there is none. Once all Swiss rounds are complete, the playoff may begin with a stage of
+    /// that many players.
     pub fn cut(&self) -> u8
         ensures value { result ≡ self.now.cut }
         ensures fits { (matches : List Match) → IsOpening self.now matches
@@ -146,7 +146,7 @@ impl Event {
         self.players.as_slice()
     }
 
-    /// Whether a player has this name. Where none has and there is room, the event fits a player of the name.
+    /// Whether a player has this name. If none has and there is room, a player of the name fits the event.
     pub fn has_name(&self, name: &Name) -> bool
         ensures value { result ≡ has_name self.now.players name.now }
         ensures fits { IsFalse result → length self.now.players < MAX_PLAYERS
@@ -176,7 +176,7 @@ impl Event {
         self.stored.as_slice()
     }
 
-    /// The match of a table of a Swiss round, where tables are numbered from 1 and a bye has table 0. A match of two players takes each
+    /// The match of a table of a Swiss round. Tables are numbered from 1, and a bye has table 0. A match of two players takes each
     /// score that is lawful in a Swiss round.
     pub fn match_at(&self, round: u8, table: u16) -> Option<&Match>
         ensures value { option_map (λ m. m.now) result ≡ match_at self.now round table }
@@ -210,7 +210,7 @@ impl Event {
     }
 
     /// The match of a slot of a stage of the playoff, both numbered from 1. An open match takes each score that is lawful in the playoff,
-    /// with the stage that follows, and is the end of the playoff where it was the final.
+    /// with the stage that follows, and ends the playoff if it was the final.
     pub fn slot_at(&self, stage: u8, slot: u8) -> Option<&Match>
         ensures value { option_map (λ m. m.now) result ≡ slot_at self.now stage slot }
         ensures fits { IfSome result (λ m. m.now.score ≡ None → (score : Games)

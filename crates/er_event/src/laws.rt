@@ -1,4 +1,4 @@
-//! Laws of events and their changes. A law is called for its contract alone, which is the law.
+//! Laws of events and their changes. A law is called only for its contract, which is the law.
 
 ghost use Rattle.er_event.specs.Altered.{OthersKeepTotals};
 ghost use Rattle.er_event.specs.Safe.{ChangesKeepSound};
@@ -24,7 +24,7 @@ pub fn others_keep_totals()
     ensures { OthersKeepTotals }
 {}
 
-/// What a change that tables of a version can take makes of an event that they keep, they keep too.
+/// If tables of a version keep an event and can take a change, they also keep the event after it.
 pub fn changes_are_kept()
     ensures { ChangesAreKept }
 {}

@@ -15,17 +15,17 @@ use crate::seats::Seats;
 pub struct Match {
     /// The number of the first-named player.
     pub a: u16,
-    /// The number of the second player, or 0 where the first has a bye.
+    /// The number of the second player, or 0 if the first has a bye.
     pub b: u16,
     /// The score, once it is reported.
     pub score: Option<Score>,
 }
 
-/// What a bye is scored.
+/// The score of a bye.
 pub const BYE: Games = Games { x: 2, y: 0, d: 0 };
 
 impl Match {
-    /// The games of the score, all 0 where there is none.
+    /// The games of the score, all 0 if there is none.
     pub fn games(&self) -> Games
         ensures { result ≡ reported_games self.now.score }
     {
@@ -42,7 +42,7 @@ impl Match {
         self.b == 0
     }
 
-    /// The number of the player who won the match, and 0 where it is open.
+    /// The number of the player who won the match, or 0 if it is open.
     pub fn winner(&self) -> u16
         ensures { result ≡ winner self.now }
     {
@@ -63,14 +63,14 @@ pub fn is_complete(matches: &[Match]) -> bool
     matches.iter().all(|played| played.score.is_some())
 }
 
-/// Whether a player has this number, of so many who are numbered from 1.
+/// Whether a player has this number, of `count` players who are numbered from 1.
 pub(crate) fn is_known(count: u16, number: u16) -> bool
     ensures { result ≡ is_known count number }
 {
     (1..=count).contains(&number)
 }
 
-/// Whether the match may stand in a Swiss round of so many players.
+/// Whether the match may stand in a Swiss round of `count` players.
 fn is_lawful(count: u16, played: &Match) -> bool
     ensures { result ≡ is_lawful_match count played.now }
 {

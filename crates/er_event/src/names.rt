@@ -9,13 +9,13 @@ use thiserror::Error;
 /// How many bytes a name may have.
 pub const MAX_NAME_BYTES: usize = 60;
 
-/// Why bytes are no name.
+/// Why bytes aren't a name.
 #[derive(Clone, Copy, Debug, PartialEq, Eq, Error)]
 pub enum NameFault {
-    /// The bytes are no lawful name.
+    /// The bytes aren't a lawful name.
     #[error("the bytes are no lawful name")]
     Bad,
-    /// There was no memory to keep the name. A name takes none today, so no call answers it.
+    /// There was no memory to keep the name. A name takes none today, so no call returns this.
     #[error("out of memory")]
     Memory,
 }
@@ -23,7 +23,7 @@ pub enum NameFault {
 /// The name of an event or a player: 1 to 60 bytes of UTF-8 with no control character and no space at either end. It takes no memory.
 #[derive(Clone, Copy)]
 pub struct Name {
-    /// The bytes of the name, and zeros behind them.
+    /// The bytes of the name, and zeros after them.
     bytes: [u8; MAX_NAME_BYTES],
     len: usize,
 }
@@ -46,7 +46,7 @@ impl Model for Name {
 }
 
 impl Name {
-    /// The name that these bytes are.
+    /// Reads these bytes as a name.
     pub fn try_from_bytes(bytes: &[u8]) -> Result<Name, NameFault>
         ensures value { IfOk result (λ name. name ≡ bytes.now) }
         ensures lawful { IsOk result ↔ IsTrue (is_lawful_name bytes.now) }

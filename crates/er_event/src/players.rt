@@ -83,7 +83,7 @@ pub(crate) fn player_of(players: &[Player], number: u16) -> Option<&Player>
     players.get(usize::from(number) - 1)
 }
 
-/// How many rounds the player of this number missed, 0 where there is no such player.
+/// How many rounds the player of this number missed, or 0 if there is no such player.
 pub(crate) fn joined_of(players: &[Player], number: u16) -> u8
     requires numbered { numbers players.now ≡ range_with_len 1 (length players.now) }
     ensures { result ≡ rounds_missed_of players.now number }
@@ -150,7 +150,7 @@ fn suits(phase: Phase, rounds: u8, players: &[Player]) -> bool
     }
 }
 
-/// Whether players with lawful names may be those of an event in this phase, with so many rounds.
+/// Whether players with lawful names may be those of an event in this phase, with `rounds` rounds.
 pub(crate) fn may_play(phase: Phase, rounds: u8, players: &[Player]) -> bool
     requires { All (λ p. IsTrue (is_lawful_name p.name)) players.now }
     ensures { IsTrue result ↔ ArePlayers phase rounds players.now }

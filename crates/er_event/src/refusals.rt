@@ -157,7 +157,7 @@ impl Refusal {
 impl fmt::Display for Refusal {
     ghost output = { λ why. Some (refusal_text why) };
 
-    /// The number and the name, and behind them what is named, if anything.
+    /// The number and the name, and after them what is named, if anything.
     fn fmt<W: fmt::Write>(&self, f: &mut fmt::Formatter<W>) -> fmt::Result {
         let (number, name) = self.entry();
         match *self {

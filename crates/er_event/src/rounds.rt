@@ -42,7 +42,7 @@ fn is_bye_last(matches: &[Match]) -> bool
     matches[..earlier].iter().all(|played| !played.is_bye())
 }
 
-/// Whether the matches may be a Swiss round of so many players.
+/// Whether the matches may be a Swiss round of `count` players.
 fn is_round(count: u16, matches: &[Match]) -> bool
     ensures { IsTrue result ↔ IsRound (range_with_len 1 count) matches.now }
 {
@@ -87,7 +87,7 @@ pub(crate) fn are_counted(stored: &[Round]) -> bool
     stored.iter().all(|round| round.is_complete())
 }
 
-/// Whether a round of these matches may come behind the rounds before, with so many players.
+/// Whether a round of these matches may come after the earlier rounds, with `count` players.
 pub(crate) fn may_follow(count: u16, earlier: &[Round], matches: &[Match]) -> bool
     ensures { IsTrue result ↔ MayFollow (range_with_len 1 count) earlier.now matches.now }
 {
@@ -103,7 +103,7 @@ pub(crate) fn may_follow(count: u16, earlier: &[Round], matches: &[Match]) -> bo
     }
 }
 
-/// Whether each round may come behind those before it, with so many players.
+/// Whether each round may come after those before it, with `count` players.
 pub(crate) fn are_rounds(count: u16, rounds: &[Round]) -> bool
     ensures { IsTrue result
         ↔ AreRounds Swiss (length rounds.now) (range_with_len 1 count) rounds.now }

@@ -14,7 +14,7 @@ pub use pairing::{PairingRow, match_at_table, read_stored};
 pub use player::{PlayerRow, read_players};
 pub use tally::{TallyRow, is_row_of, read_tally};
 
-/// What the number of a column says that is yes or no: 1 or 0.
+/// Reads the number of a column that says yes or no: 1 or 0.
 pub fn read_flag(number: i64) -> Option<bool>
     ensures value { IfSome result (λ set. number ≡ flag set) }
     ensures exact { (set : Bool) → number ≡ flag set → result ≡ Some set }

@@ -49,7 +49,7 @@ fn no_seats() -> [Option<Match>; NUMBERS]
     [None; NUMBERS]
 }
 
-/// Notes at which match the number sits, where a player can have it.
+/// Notes at which match the number sits, if a player can have that number.
 fn seat(table: &mut [Option<Match>; NUMBERS], number: u16, played: Match)
     ensures { table.new ≡ slice_set table.old number (Some played) }
 {
@@ -86,7 +86,7 @@ impl<'a> Model for Seats<'a> {
 }
 
 impl<'a> Seats<'a> {
-    /// The matches with their table, or none where somebody sits at two of them, or opposite to themself.
+    /// The matches with their table, or none if somebody sits at two of them, or opposite to themself.
     pub(crate) fn of(matches: &'a [Match]) -> Option<Seats<'a>>
         ensures once { IsSome result ↔ IsSeatedOnce matches.now }
         ensures value { IfSome result (λ seats. seats ≡ matches.now) }

@@ -37,7 +37,7 @@ pub struct Totals {
     pub games: u16,
 }
 
-/// The match points of one who won and lost so many games.
+/// The match points of a player who won `won` games and lost `lost`.
 fn points(won: u8, lost: u8) -> u8
     ensures value { result ≡ (if nat_lt lost won then 3 else if won == lost then 1 else 0) }
     ensures few { result ≤ 3 }
@@ -50,7 +50,7 @@ fn points(won: u8, lost: u8) -> u8
 }
 
 impl Totals {
-    /// What no match comes to.
+    /// The totals of no match.
     const fn none() -> Totals
         ensures { result ≡ totals_of [] }
     {
@@ -62,7 +62,7 @@ impl Totals {
         }
     }
 
-    /// With one match more, of which the player's own games come first.
+    /// With one more match, of which the player's own games come first.
     fn with(self, games: Games) -> Totals
         requires room { (rounds : ℕ) × (rounds < MAX_ROUNDS) × AreOver rounds self }
         requires few { AreFew games }
@@ -77,7 +77,7 @@ impl Totals {
         }
     }
 
-    /// With so many rounds more that the player missed.
+    /// With `rounds` more rounds, which the player missed.
     fn with_missed(self, rounds: usize) -> Totals
         requires { self.rounds + rounds < 256 }
         ensures { result ≡ plus self (missed_totals rounds) }
@@ -187,7 +187,7 @@ fn complete_with(rounds: &[Round], first: u8, new: &NewScore) -> usize
     count
 }
 
-/// How many rounds the player of this number has missed, once one more is enrolled, who has missed so many.
+/// How many rounds the player of this number has missed, once one more is enrolled, who has missed `newest`.
 fn joined_with(players: &[Player], newest: u8, player: u16) -> u8
     requires { numbers players.now ≡ range_with_len 1 (length players.now) }
     ensures { (new : Player) → new.no ≡ 1 + length players.now → new.joined ≡ newest

@@ -22,21 +22,21 @@ abbrev pub totals_of_games : Option Games → Totals
 totals_of_games None = totals_of []
 totals_of_games (Some g) = totals_of (record { round = 0; opponent = None; won = g.x; lost = g.y; drawn = g.d } ∷ [])
 
--- none where the player isn't in the match, or it has no score
+-- none if the player isn't in the match, or it has no score
 abbrev pub AreSeen : Match → ℕ → Option Games → Type 0
 AreSeen m player None = (round : ℕ) → results_of_match player round m ≡ []
 AreSeen m player (Some g) =
     ((player ≡ m.a) ⊎ (player ≡ m.b)) × AreFew g
     × ((round : ℕ) → totals_of (results_of_match player round m) ≡ totals_of_games (Some g))
 
--- what so many matches can come to at most
+-- what `rounds` matches can come to at most
 pub record AreOver (rounds : ℕ) (t : Totals) : Type 0 where
   pub points : t.points ≤ 3 * rounds
   pub rounds_are : t.rounds ≤ rounds
   pub game_points : t.game_points ≤ 12 * rounds
   pub games : t.games ≤ 9 * rounds
 
--- the rounds, where the match of a table of the round at this place has this score
+-- the rounds, but the match of a table of the round at this place has this score
 abbrev pub rounds_with_score : List Round → ℕ → ℕ → Games → List Round
 rounds_with_score rounds place table score =
     let r = slice_index_or rounds place (record { matches = [] }) in

@@ -51,7 +51,7 @@ fn copy_next(alloc: Global, next: Option<&Items<Match>>) -> Result<Option<Items<
     }
 }
 
-/// Puts the stage that follows, if there is one, behind the others.
+/// Puts the stage that follows, if there is one, after the others.
 fn add_next(stages: &mut Items<Items<Match>>, next: Option<Items<Match>>) -> Result<(), AllocError>
     ensures ok { OnOk result (stages.new ≡ stages.old ++ one_more next) }
     ensures err { IfErr result (λ _. stages.new ≡ stages.old) }

@@ -24,7 +24,7 @@ const OPEN: Match = Match {
     score: None,
 };
 
-/// The stage with this match in its place, and open matches behind it.
+/// The stage with this match in its place, and open matches after it.
 fn with_match(stage: &[Match], at: usize, played: Match) -> [Match; MAX_SLOTS]
     requires few { length stage.now ≤ MAX_SLOTS }
     requires within { at < length stage.now }

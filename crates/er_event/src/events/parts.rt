@@ -25,7 +25,7 @@ pub struct Parts {
     pub bracket: Items<BracketRow>,
 }
 
-/// Why rows are no event.
+/// Why rows aren't an event.
 #[derive(Clone, Copy, Debug, PartialEq, Eq, Error)]
 pub enum PartsFault {
     /// The first table whose rows no sound event has.
@@ -47,7 +47,7 @@ impl From<AllocError> for PartsFault {
 }
 
 impl Event {
-    /// The event that the rows are of, made once all of them are read, or else the first of the four tables that is at fault.
+    /// Makes the event that the rows are of, once all of them are read, or names the first of the four tables that is at fault.
     fn read(alloc: Global, parts: &Parts) -> Result<Event, PartsFault>
         ensures value { IfOk result (IsOf parts.now) }
         ensures sound { IfOk result IsSoundButForSeeds }
@@ -77,7 +77,7 @@ impl Event {
         })
     }
 
-    /// The event that the rows are of, or else the first of the four tables that is at fault.
+    /// Makes the event that the rows are of, or names the first of the four tables at fault.
     pub fn from_parts(alloc: Global, parts: Parts) -> Result<Event, PartsFault>
         ensures value { IfOk result (IsOf parts) }
         ensures sound { IfOk result IsSoundButForSeeds }

@@ -72,7 +72,7 @@ fn score_of(row: &BracketRow) -> Option<Option<Score>>
     }
 }
 
-/// The match that a row can be of, if it is one.
+/// Reads a row as the match that it can be of, if it is one.
 fn possible_match(row: &BracketRow) -> Option<Match>
     ensures { (stage : ℕ) (n : ℕ × Match) → FitsSlotRow n.1 → row.now ≡ bracket_row stage n
         → result ≡ Some n.1 }
@@ -83,7 +83,7 @@ fn possible_match(row: &BracketRow) -> Option<Match>
     Some(Match { a, b, score })
 }
 
-/// The match that a row has at this slot of a stage.
+/// Reads the match that a row has at this slot of a stage.
 fn read_match(stage: u8, slot: usize, row: &BracketRow) -> Option<Match>
     requires { slot < 9223372036854775808 }
     ensures value { IfSome result (λ m. row.now ≡ bracket_row stage (slot, m)) }
@@ -98,7 +98,7 @@ fn read_match(stage: u8, slot: usize, row: &BracketRow) -> Option<Match>
     }
 }
 
-/// The matches of the slots 1, 2, .. of a stage.
+/// Reads the matches of the slots 1, 2, .. of a stage.
 fn read_slots(alloc: Global, stage: u8, rows: &[BracketRow]) -> Result<Items<Match>, PartsFault>
     ensures value { IfOk result (λ ms. rows.now ≡ stage_rows stage ms) }
     ensures exact { (ms : List Match) → All FitsSlotRow ms → rows.now ≡ stage_rows stage ms
@@ -125,7 +125,7 @@ fn rows_of_stage(rows: &[BracketRow], stage: u8) -> usize
         .count()
 }
 
-/// The matches of the stage whose rows come first, and how many rows they are.
+/// Reads the matches of the stage whose rows come first, and counts these rows.
 fn read_next(
     alloc: Global,
     stage: u8,
@@ -149,7 +149,7 @@ fn read_next(
     Ok((matches, count))
 }
 
-/// The stages of these rows, in the order of their key.
+/// Reads the stages of these rows, in the order of their key.
 fn read_stages(alloc: Global, rows: &[BracketRow]) -> Result<Vec<Items<Match>>, PartsFault>
     ensures value { IfOk result (λ stages. rows.now ≡ bracket_rows_from 1 stages.items) }
     ensures exact { (stages : List (List Match)) → All FitStageRows stages
@@ -178,7 +178,7 @@ fn is_playoff(phase: Phase) -> bool
     matches!(phase, Phase::Playoff | Phase::Finished)
 }
 
-/// Whether the stages may be those of an event in the playoff that is set up so, with so many players.
+/// Whether the stages may be those of an event in the playoff that is set up so, with `count` players.
 fn suits(setup: &Setup, count: u16, stages: &[Items<Match>]) -> bool
     requires { IsPlayoff setup.now.phase }
     ensures { IsTrue result
@@ -190,7 +190,7 @@ fn suits(setup: &Setup, count: u16, stages: &[Items<Match>]) -> bool
     is_decided(stages) == (setup.phase == Phase::Finished)
 }
 
-/// The stages of these rows, where they may be those of an event that is set up so, with so many players.
+/// Reads the stages of these rows, if they may be those of an event that is set up so, with `count` players.
 pub fn read_bracket(
     alloc: Global,
     setup: &Setup,

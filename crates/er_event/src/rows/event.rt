@@ -56,7 +56,7 @@ fn phase_of(value: i64) -> Option<Phase>
     }
 }
 
-/// A number below 256.
+/// Reads a number below 256.
 pub fn small_of(value: i64) -> Option<u8>
     ensures value { IfSome result (λ n. value ≡ pos n) }
     ensures none { IsNone result → (n : ℕ) → n < 256 → value ≢ pos n }
@@ -85,7 +85,7 @@ fn most_rounds(version: u8) -> Option<u8>
     }
 }
 
-/// What the row says, where an event may have it.
+/// Reads what the row says, if an event may have it.
 fn read_row(row: &EventRow) -> Result<Setup, PartsFault>
     ensures value { IfOk result (λ setup. (e : EventValue) → IsSetUpAs setup e
         → IsEventRow (row.now ∷ []) e) }
@@ -118,7 +118,7 @@ fn read_row(row: &EventRow) -> Result<Setup, PartsFault>
     })
 }
 
-/// What the one row of the table says, where an event may have it.
+/// Reads what the one row of the table says, if an event may have it.
 pub fn read_event(rows: &[EventRow]) -> Result<Setup, PartsFault>
     ensures value { IfOk result (λ setup. (e : EventValue) → IsSetUpAs setup e
         → IsEventRow rows.now e) }

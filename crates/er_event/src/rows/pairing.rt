@@ -76,7 +76,7 @@ fn score_of(row: &PairingRow) -> Option<Option<Score>>
     }
 }
 
-/// The two players, the first-named one first.
+/// Reads the two players, the first-named one first.
 fn players_of(row: &PairingRow) -> Option<(u16, u16)>
     ensures { (round : ℕ) (n : ℕ × Match) → FitsRow n.1 → row.now ≡ pairing_row round n
         → result ≡ Some (n.1.a, n.1.b) }
@@ -90,7 +90,7 @@ fn players_of(row: &PairingRow) -> Option<(u16, u16)>
     }
 }
 
-/// The match that a row can be of, if it is one.
+/// Reads a row as the match that it can be of, if it is one.
 fn possible_match(row: &PairingRow) -> Option<Match>
     ensures { (round : ℕ) (n : ℕ × Match) → FitsRow n.1 → row.now ≡ pairing_row round n
         → result ≡ Some n.1 }
@@ -107,7 +107,7 @@ fn table_of(table: usize, played: &Match) -> usize
     if played.is_bye() { 0 } else { table }
 }
 
-/// The match that a row has at this table of a round.
+/// Reads the match that a row has at this table of a round.
 fn read_match(round: u8, table: usize, row: &PairingRow) -> Option<Match>
     requires { table < 9223372036854775808 }
     ensures value { IfSome result (λ m. row.now ≡ pairing_row round (table, m)) }
@@ -122,7 +122,7 @@ fn read_match(round: u8, table: usize, row: &PairingRow) -> Option<Match>
     }
 }
 
-/// The match that a row has at this table of a round, of which a bye's is 0, where such a match may be stored.
+/// Reads the match that a row has at this table of a round, which is 0 for a bye, if such a match may be stored.
 pub fn match_at_table(round: u8, table: u16, row: &PairingRow) -> Option<Match>
     ensures value { IfSome result (λ m. (row.now ≡ pairing_row round (table, m))
         × MayStand table m) }
@@ -135,7 +135,7 @@ pub fn match_at_table(round: u8, table: u16, row: &PairingRow) -> Option<Match>
     }
 }
 
-/// The match of two players that a row has at this table.
+/// Reads the match of two players that a row has at this table.
 fn read_table(round: u8, table: usize, row: &PairingRow) -> Option<Match>
     requires { table < 9223372036854775808 }
     ensures value { IfSome result (λ m. (row.now ≡ pairing_row round (table, m))
@@ -149,7 +149,7 @@ fn read_table(round: u8, table: usize, row: &PairingRow) -> Option<Match>
     }
 }
 
-/// The matches of the tables 1, 2, .. of a round.
+/// Reads the matches of the tables 1, 2, .. of a round.
 fn read_tables(alloc: Global, round: u8, rows: &[PairingRow]) -> Result<Items<Match>, PartsFault>
     ensures value { IfOk result (λ ms. (rows.now ≡ table_rows round 1 ms) × AreTables ms) }
     ensures exact { (ms : List Match) → All FitsRow ms → AreTables ms
@@ -168,7 +168,7 @@ fn read_tables(alloc: Global, round: u8, rows: &[PairingRow]) -> Result<Items<Ma
     Ok(matches)
 }
 
-/// The bye that a row has.
+/// Reads the bye that a row has.
 fn read_bye(round: u8, row: &PairingRow) -> Option<Match>
     ensures value { IfSome result (λ m. (row.now ≡ pairing_row round (0, m)) × IsTrue (is_bye m)) }
     ensures exact { (m : Match) → FitsRow m → IsTrue (is_bye m) → row.now ≡ pairing_row round (0, m)
@@ -180,7 +180,7 @@ fn read_bye(round: u8, row: &PairingRow) -> Option<Match>
     }
 }
 
-/// The matches of a round with a bye, which stands last.
+/// Reads the matches of a round with a bye, which stands last.
 fn read_with_bye(
     alloc: Global,
     round: u8,
@@ -210,7 +210,7 @@ fn is_bye_row(row: &PairingRow) -> bool
     row.tab == 0
 }
 
-/// The matches of a round of these rows, of which a bye's comes first.
+/// Reads the matches of a round from these rows, of which a bye's comes first.
 fn read_round(alloc: Global, round: u8, rows: &[PairingRow]) -> Result<Items<Match>, PartsFault>
     ensures value { IfOk result (λ ms. rows.now ≡ keyed_round_rows round ms) }
     ensures exact { (ms : List Match) → FitRows ms → rows.now ≡ keyed_round_rows round ms
@@ -233,7 +233,7 @@ fn rows_of_round(rows: &[PairingRow], round: u8) -> usize
         .count()
 }
 
-/// The matches of the round whose rows come first, and how many rows they are.
+/// Reads the matches of the round whose rows come first, and counts these rows.
 fn read_next(
     alloc: Global,
     round: u8,
@@ -257,7 +257,7 @@ fn read_next(
     Ok((matches, count))
 }
 
-/// The rounds of these rows, in the order of their key.
+/// Reads the rounds of these rows, in the order of their key.
 fn read_rounds(alloc: Global, rows: &[PairingRow]) -> Result<Vec<Round>, PartsFault>
     ensures value { IfOk result (λ rounds. rows.now ≡ keyed_rows_from 1 rounds.items) }
     ensures exact { (rounds : List Round) → All (λ (r : Round). FitRows r.matches) rounds
@@ -280,7 +280,7 @@ fn read_rounds(alloc: Global, rows: &[PairingRow]) -> Result<Vec<Round>, PartsFa
     Ok(rounds)
 }
 
-/// Whether the rounds may be those of an event that is set up so, with so many players.
+/// Whether the rounds may be those of an event that is set up so, with `count` players.
 fn suits(setup: &Setup, count: u16, rounds: &[Round]) -> bool
     ensures { IsTrue result
         ↔ AreRounds setup.now.phase setup.now.rounds (range_with_len 1 count) rounds.now }
@@ -299,7 +299,7 @@ fn suits(setup: &Setup, count: u16, rounds: &[Round]) -> bool
     }
 }
 
-/// The rounds of these rows, where they may be those of an event that is set up so, with so many players.
+/// Reads the rounds of these rows, if they may be those of an event that is set up so, with `count` players.
 pub fn read_stored(
     alloc: Global,
     setup: &Setup,

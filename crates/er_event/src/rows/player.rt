@@ -18,7 +18,7 @@ use crate::players::{Player, PlayerNo, is_nobody_late, may_play};
 use crate::refusals::Place;
 use std::alloc::{AllocError, Global};
 
-/// A row of the table of players, `joined` being 0 where the table has no such column.
+/// A row of the table of players. `joined` is 0 if the table has no such column.
 #[derive(Drop)]
 pub struct PlayerRow {
     pub no: i64,
@@ -53,7 +53,7 @@ fn read_player(row: &PlayerRow) -> Option<Player>
     })
 }
 
-/// The players of these rows, which may be numbered and named anyhow.
+/// Reads the players of these rows, which may be numbered and named anyhow.
 fn read_rows(alloc: Global, rows: &[PlayerRow]) -> Result<Vec<Player>, PartsFault>
     ensures value { IfOk result (λ players. (rows.now ≡ map player_row players.items)
         × All (λ p. IsTrue (is_lawful_name p.name)) players.items) }
@@ -70,7 +70,7 @@ fn read_rows(alloc: Global, rows: &[PlayerRow]) -> Result<Vec<Player>, PartsFaul
     Ok(players)
 }
 
-/// The players of these rows, where they may be those of an event with this row, in tables of its version.
+/// Reads the players of these rows, if they may be those of an event with this row, in tables of its version.
 pub fn read_players(
     alloc: Global,
     setup: &Setup,

@@ -35,7 +35,7 @@ impl TallyRow {
     }
 }
 
-/// Whose row this is, with the totals in it, where each number is in its range.
+/// Reads whose row this is, with the totals in it, if each number is in its range.
 pub fn read_tally(row: &TallyRow) -> Option<(PlayerNo, Totals)>
     ensures value { IfSome result (λ it. row.now ≡ tally_row it.0 it.1) }
     ensures exact { (no : ℕ) (t : Totals) → 1 ≤ no → no ≤ MAX_PLAYERS → AreReadable t

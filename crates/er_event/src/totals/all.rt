@@ -29,7 +29,7 @@ fn with_new(seat: Match, new: Option<&Match>) -> Match
     }
 }
 
-/// The games of a round as the player saw them, where one of its matches may have a new score.
+/// The games of a round as the player saw them, if one of its matches may have a new score.
 fn games_in(seats: &Seats<'_>, new: Option<&Match>, player: u16) -> Option<Games>
     requires player { 0 < player }
     requires apart { IfSome (option_map (λ m. m.now) new) (λ m. m.a ≢ m.b) }
