@@ -31,7 +31,7 @@ pub starts_all : (row : Places) (p : ℕ) → get_or row.words 0 0 < 2 ^ 64
 unfolding is_ahead
 starts_all row p fits = grind (arith, nat_tests, not_set (get_or row.words 0 0) (p % 64) fits (omega arith), word_of row 0 p)
 
--- ---- the next place, where the walk so far is one of these places
+-- ---- the next place; the places ahead are those that pass the test
 
 module _ (one other : Places) (word left : ℕ) (test : ℕ → Bool) (same : (p : ℕ) → is_ahead one other word left p ≡ test p) where
   -- a word of which no bit is left
@@ -82,7 +82,7 @@ pub without_row : (row other : Places) (word left p : ℕ) → get_or row.words 
 unfolding is_ahead
 without_row row other word left p fits = grind (arith, common_steps, and_not_set, nat_tests, word_of)
 
--- of a place in a later word, which the row has from now on
+-- of a place in a later word, which the set has from now on
 pub but_elsewhere : (row more : Places) (word left place p : ℕ) → (place / 64 ≡ word → ⊥)
     → has_place more p ≡ (p == place || has_place row p)
     → is_ahead more more word left p ≡ (is_ahead row row word left p && not (p == place))

@@ -67,7 +67,7 @@ module _ (met : ℕ → ℕ → Bool) (order : List ℕ) where
   pub short_within : MAX_STEPS < (search_of (met_at met order) (all_positions order)).1 → length order ≤ 14 → ⊥
   short_within more short = grind (arith, common_steps, length-range_with_len, search_of-short)
 
-  -- where no two entries have met, no two positions have
+  -- if no two entries have met, no two positions have
   module _ (fresh : AllPairs (λ p q. IsFalse (met p q)) order) (even : length order % 2 ≡ 0) where
     fresh_search : ((pairs : List Pair) × ((search_of (met_at met order) (all_positions order)).0 ≡ Some pairs))
         × ((search_of (met_at met order) (all_positions order)).1 * 2 ≡ length order)

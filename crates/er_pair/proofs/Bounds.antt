@@ -1,4 +1,4 @@
--- How many steps a search makes at most, and how many where nobody has met.
+-- How many steps a search makes at most, and how many if nobody has met.
 use Rattle.std.proofs.{lemmas.Grind.common_steps, Common.{◌≡◌, ℕ, zero, suc, ◌+◌, ◌*◌, ◌%◌, ◌≤◌, nat_lt, Bool, true, IsFalse, List, []}}
 use Rattle.std.proofs.Common.{◌∷◌, ◌++◌, length, AllPairs, Option, Some, refl, ap, ◌∙◌, arith, append_assoc, not-suc-le-zero}
 use Rattle.std.proofs.{lemmas.Bool.{agree_below_at, cond_both, cond-false}, lemmas.Bool.Decides.nat_tests}
@@ -50,7 +50,7 @@ search_of-short met list short =
     let all = search_of-most met (length list) list (omega arith) in
     grind (arith, nat_tests)
 
--- where no two have met, each table takes one step
+-- if no two have met, each table takes one step
 pub search_of-fresh : (met : ℕ → ℕ → Bool) (list : List ℕ) → length list % 2 ≡ 0 → AllPairs (λ p q. IsFalse (met p q)) list
     → ((pairs : List Pair) × ((search_of met list).0 ≡ Some pairs)) × ((search_of met list).1 * 2 ≡ length list)
 unfolding tries after_step

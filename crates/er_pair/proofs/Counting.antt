@@ -1,4 +1,4 @@
--- Two lists have the same elements where each number stands as often in the one as in the other.
+-- Two lists have the same elements if each number stands as often in the one as in the other.
 use Rattle.std.proofs.Common.{◌≡◌, inl, inr, ℕ, ◌+◌, ◌<◌, ◌==◌, cond, List, [], ◌∷◌, sum_by, sym, arith, not-suc-le-zero, IsPermutation}
 use Rattle.std.proofs.{lemmas.Bool.cases_eq, lemmas.Bool.Decides.nat_tests, lemmas.List.Sums.sum_by-cons}
 use Rattle.std.proofs.lemmas.List.Sorted.{IsPermutation-refl, IsPermutation-cons, IsPermutation-trans, IsPermutation-sym}

@@ -52,7 +52,7 @@ module _ (met : ℕ → ℕ → Bool) (order : List ℕ) where
       → IsEarliest met order found
   earliest_found found is = grind (arith, common_steps, search-settled)
 
-  -- where it finds none, there is none
+  -- if it finds none, there is none
   pub none_found : (search_of (met_at met order) (all_positions order)).0 ≡ None → (pairs : List Pair) → IsLegal met order pairs → ⊥
   none_found is = subst (Outcome (IsLegal met order)) is search-settled
 

@@ -35,7 +35,7 @@ pub nobody_has_met : search_of (λ p q. false) (1 ∷ 2 ∷ 3 ∷ 4 ∷ []) ≡ 
 unfolding search_of search_within tries after_step
 nobody_has_met = refl
 
--- a met pair is no candidate, and no step
+-- a met pair isn't a candidate, and takes no step
 pub no_pairing : search_of (met_only 1 2) (1 ∷ 2 ∷ []) ≡ (None, 0)
 unfolding search_of search_within tries after_step
 no_pairing = refl

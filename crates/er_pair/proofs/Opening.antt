@@ -28,7 +28,7 @@ used-from_In n (x ∷ xs) (inl same) = or_left (x == n) (list_any (λ used. used
 used-from_In n (x ∷ xs) (inr later) = or_right (x == n) (list_any (λ used. used == n) xs) (used-from_In n xs later)
 
 module _ (met : ℕ → ℕ → Bool) (order : List ℕ) where
-  -- nothing free is paired by no pair alone
+  -- if nothing is free, the pairing has no pairs, and only that one is legal
   pub legal_none : IsLegalOf met order [] []
   legal_none = record {
     each_once = IsPermutation-refl [];
@@ -87,7 +87,7 @@ module _ (met : ℕ → ℕ → Bool) (order : List ℕ) where
         subst (λ (pairs : List Pair). Opens met order first [] rest pairs) (sym is)
         (opened chosen.1 new (others_legal pair.1 chosen.0 more chosen.1 own))
 
-    -- where the others are legally paired, a position that they use or the first two use comes before
+    -- if the others are legally paired, a position that they use or the first two use comes before
     turn : (candidate : ℕ) (others : List ℕ) (more : List Pair) → Picked rest candidate others → IsLegalOf met order others more
         → (at : ℕ) (pair : Pair) → slice_get ((first, candidate) ∷ more) at ≡ Some pair
         → OpensWithLeast (first ∷ rest) (take at ((first, candidate) ∷ more)) pair

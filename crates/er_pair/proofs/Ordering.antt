@@ -161,7 +161,7 @@ module _ (event : EventValue) where
       → is_before p q ≡ comes_before event key p.number q.number
   comes_from key p q one two = cc
 
-  -- places in order, by number, with the bye where it is due
+  -- places in order, by number, with the bye if it is due
   pub ordered : (keys : List ℕ) (sorted : List Entrant) (seats : List ℕ) → IsSoundButForSeeds event
       → length keys ≡ length (active_numbers event) → IsPermutation (entrants_of event (active_numbers event) keys) sorted
       → IsSortedBy is_before sorted → seats ≡ seats_of (map (λ (p : Entrant). p.number) sorted)

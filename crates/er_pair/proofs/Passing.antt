@@ -3,7 +3,7 @@ use Rattle.std.proofs.Common.{◌≡◌, ℕ, zero, suc, ◌+◌, ◌<◌, ◌�
 use Rattle.std.proofs.lemmas.List.Elements.{filter-append}
 use Rattle.std.specs.{Prelude.filter, List.range_with_len}
 
--- those of the so many positions from a on
+-- those of the `k` positions from a on
 abbrev pub passing : (ℕ → Bool) → ℕ → ℕ → List ℕ
 passing test a k = filter test (range_with_len a k)
 

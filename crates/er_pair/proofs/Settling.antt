@@ -19,7 +19,7 @@ pub record IsFirst (These : List Pair → Type 0) (pairs : List Pair) : Type 0 w
 abbrev pub Outcome : (List Pair → Type 0) → Option (List Pair) → Type 0
 Outcome These answer = MatchOption answer ((pairs : List Pair) → These pairs → ⊥) (IsFirst These)
 
--- where the pairings are the same, so is their first
+-- if the pairings are the same, so is their first
 Outcome-same : (These Those : List Pair → Type 0) → ((pairs : List Pair) → These pairs → Those pairs)
     → ((pairs : List Pair) → Those pairs → These pairs) → (answer : Option (List Pair)) → Outcome These answer → Outcome Those answer
 Outcome-same h1 h2 to from h3 none = grind (arith, common_steps)
@@ -123,7 +123,7 @@ module _ (met : ℕ → ℕ → Bool) (order : List ℕ) where
   none_open : (first : ℕ) (passed : List ℕ) {pairs : List Pair} → Opens met order first passed [] pairs → ⊥
   none_open first passed (opened p new legal) = elim p [ ]
 
-  -- where the lists without a candidate are settled, so are the candidates of the first
+  -- if the lists without a candidate are settled, so are the candidates of the first
   tried : (first : ℕ) (passed left : List ℕ) → Rises left
       → ((c : ℕ) (o : List ℕ) → Picked left c o → Settled (passed ++ o) (search_of (met_at met order) (passed ++ o)))
       → Tried first passed left (tries (met_at met order) (search_of (met_at met order)) first passed left)

@@ -54,7 +54,7 @@ module _ (rows : List Places) (free : ℕ → Bool) (first : ℕ) where
       pass_one next (omega arith) (none next (omega arith) (omega arith))
       ∙ runs d (next + 1) to (omega arith) within (λ p low high. none p (omega arith) high)
 
-  -- where no candidate is left
+  -- if no candidate is left
   pub none_left : (next : ℕ) → next ≤ length rows → HoldsNowhere is_new next (length rows) → left_to_try next ≡ (None, zero)
   unfolding tries
   none_left next within none =
@@ -102,7 +102,7 @@ pub free_none : (used : Places) (cursor : Cursor) (end : ℕ) → IsNoneAhead us
 unfolding free_ahead
 free_none used cursor end none = passing-none (ahead_of used used cursor) 0 end (λ p low below. none p (omega arith) (omega arith))
 
--- those ahead are the first, and those ahead of the cursor behind it
+-- those ahead are the first, and those ahead of the cursor after it
 pub free_first : (used : Places) (cursor behind : Cursor) (first end : ℕ) → IsNext used used cursor behind end first
     → free_ahead used cursor end ≡ first ∷ passing (ahead_of used used behind) 0 end
 unfolding free_ahead
@@ -125,7 +125,7 @@ pub fewer_ahead : (used : Places) (cursor behind : Cursor) (first end : ℕ) →
 unfolding free_ahead
 fewer_ahead used cursor behind first end next = omega (arith, ap length (free_first used cursor behind first end next))
 
--- and so where there are two
+-- and so if there are two
 pub two_ahead : (used : Places) (cursor behind last : Cursor) (first second end : ℕ) → length (free_ahead used cursor end) ≡ 2
     → IsNext used used cursor behind end first → IsNext used used behind last end second
     → free_ahead used cursor end ≡ first ∷ second ∷ []
@@ -160,7 +160,7 @@ after_step-dead : (pair : Pair) (own later : Answer) (steps left : ℕ) (found :
 unfolding after_step
 after_step-dead pair h1 later steps left found some answers = grind (arith, common_steps)
 
--- they are none
+-- they aren't one
 after_step-found : (pair : Pair) (own later : Answer) (steps left : ℕ) (found : List Pair) (outcome : Outcome) → 0 < steps
     → (outcome ≡ DeadEnd → ⊥) → SearchAnswers own (steps - 1) found left outcome
     → SearchAnswers (after_step pair own.0 own.1 later) steps (pair ∷ found) left outcome
@@ -176,7 +176,7 @@ pub rest_size : (pairs : List Pair) (pair : Pair) → 0 < length pairs
     → length (take (length (set pairs 0 pair) - 1) (drop 1 (set pairs 0 pair))) ≡ length pairs - 1
 rest_size h1 pair some = grind (arith, common_steps)
 
--- with those of the search behind it
+-- with those of the search after it
 pub pair_and_more : (pairs found : List Pair) (pair : Pair) → length found ≡ length (set pairs 0 pair) - 1 → 0 < length pairs
     → put_mid 1 (length (set pairs 0 pair) - 1) (set pairs 0 pair) found ≡ pair ∷ found
 pair_and_more [] found pair size some = absurd (omega arith)
@@ -260,7 +260,7 @@ module _ (rows : List Places) (at_first used : Places) (list : List ℕ) (others
         rest_two_by_two size is_list all =
             omega (arith, two_fewer rows free first list c is_list is.0 is_free, ap length rest_is, all)
 
-        -- where it is a dead end, the candidate is passed
+        -- if it is a dead end, the candidate is passed
         pub goes_on : (back last : Places) (found : List Pair) (left_after : ℕ) (outcome : Outcome) → after.index < WORDS → 0 < left
             → SearchAnswers (answer_ahead rows more rest) (left - 1) found left_after outcome → outcome ≡ DeadEnd
             → ((p : ℕ) → has_place more p ≡ (is_later others.index c p || has_place used p))
@@ -296,7 +296,7 @@ module _ (rows : List Places) (at_first used : Places) (list : List ℕ) (others
                   | inr past ↦ grind (arith, nat_tests, same, is.2 p, h.walk p)
                 ]
 
-        -- where it isn't, that is the answer
+        -- if it isn't, that is the answer
         pub answers_with : (found all : List Pair) (left_after : ℕ) (outcome : Outcome) → 0 < left → (outcome ≡ DeadEnd → ⊥)
             → all ≡ (first, c) ∷ found → SearchAnswers (answer_ahead rows more rest) (left - 1) found left_after outcome
             → SearchAnswers (search_of (met_in rows) list) steps all left_after outcome

@@ -1,4 +1,4 @@
--- An event has under its keys one order.
+-- An event has one order under its keys.
 use Rattle.std.proofs.Common.{◌≡◌, inl, inr, ℕ, suc, true, IsTrue, List, [], ◌∷◌, AllPairs, IsPermutation, refl, sym, ap, ◌∙◌, arith}
 use Rattle.std.proofs.{Common.true≢false, lemmas.List.Sorted.{IsPermutation-sym, IsPermutation-trans}}
 use Rattle.er_event.specs.Event.{EventValue}

@@ -1,4 +1,4 @@
--- The refusal that the want of a pairing means.
+-- The refusal that each fault of a search for a pairing means.
 use Rattle.er_event.specs.declared.refusals.Refusal.{Refusal}
 use Rattle.er_event.specs.declared.refusals.Refusal.TheVariants as refusal
 use Rattle.er_pair.specs.declared.pairings.PairFault.{PairFault}

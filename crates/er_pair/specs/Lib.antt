@@ -2,11 +2,11 @@
 -- key.
 --
 -- Order has the words of the key (RFC 8439) and the order of the active players. Pairing says which pairings are legal,
--- and which of them is the earliest. Laws says what is true of every order and every legal pairing. Steps counts the
--- candidates that a search for a pairing looks at, and Fault says how each fault of it is refused. Met is who has met
--- whom.
+-- and which of them is the earliest. Laws says what is true of every order and every legal pairing, and how many steps a
+-- short order needs. Steps counts the candidates that a search for a pairing looks at, and Fault says how each fault of it
+-- is refused. Met is who has met whom.
 --
--- What private functions alone cite lies in `inside`, as the sets of bits that `Met` and the search are made of.
+-- What only private functions cite lies in `inside`, as the sets of bits that `Met` and the search are made of.
 --
 -- Which contract carries it:
 --   `keys`, `order`: the words of the key, and the order under them. Its caller gives a word for each active player.

@@ -28,7 +28,7 @@ comes_before event key p q =
     nat_lt (points q) (points p)
     || (points p == points q && (nat_lt (own p) (own q) || (own p == own q && nat_lt p q)))
 
--- the bye stands last where their count is odd
+-- the bye stands last if their count is odd
 abbrev pub seats_of : List ℕ → List ℕ
 seats_of players = if length players % 2 == 1 then players ++ 0 ∷ [] else players
 

@@ -9,7 +9,7 @@ met_at met order p q = met (slice_index order p) (slice_index order q)
 abbrev pub candidates : (ℕ → ℕ → Bool) → List ℕ → ℕ → List ℕ → List ℕ
 candidates met order first later = filter (λ other. not (met_at met order first other)) later
 
--- the candidates that are tried: those up to the first one's partner in the earliest legal pairing, and all where none is legal
+-- the candidates that are tried: those up to the first one's partner in the earliest legal pairing, and all if none is legal
 pub data AreTried (met : ℕ → ℕ → Bool) (order : List ℕ) (first : ℕ) (later : List ℕ) : List ℕ → Type 0 where
   up_to_partner : {partner : ℕ} {more : List Pair} → IsEarliestOf met order (first ∷ later) ((first, partner) ∷ more)
       → AreTried met order first later (filter (λ other. nat_le other partner) (candidates met order first later))

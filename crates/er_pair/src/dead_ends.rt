@@ -36,7 +36,7 @@ fn slot(left: u64, count: usize) -> usize
     (left.wrapping_mul(0x9e37_79b9_7f4a_7c15) >> 54) as usize % count
 }
 
-/// The steps that a search from here takes, where it is known to be a dead end.
+/// The steps that a search from here takes, if it is known to be a dead end.
 pub fn steps_of(kept: &[KnownDeadEnd], ahead: Cursor) -> Option<u32>
     requires { 0 < length kept.now }
     ensures { IfSome result (λ steps. (rows : List Places) (used : Places) → AreDeadEnds rows kept.now

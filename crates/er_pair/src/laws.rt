@@ -1,4 +1,4 @@
-//! Laws of orders and of legal pairings, over the definitions alone. A law is a function with no code, whose contract is the law.
+//! Laws of orders and of legal pairings, stated over the definitions only. A law is a function with no code, whose contract is the law.
 
 ghost use Rattle.er_pair.specs.Laws.{OneOrder, StandOnce, OneEarliest, LegalSeats, ShortNeeds};
 

@@ -79,7 +79,7 @@ impl Met {
         Ok(())
     }
 
-    /// Those that a number has met, where it is at most 512.
+    /// Those that a number has met, if it is at most 512.
     #[tactic(auto, using(crate::proofs::Opponents::met_by_place))]
     pub(crate) fn row(&self, number: u16) -> Option<&Places>
         ensures { MatchOption result (HasMetNobody self.now number) (λ row. (number < NUMBERS)

@@ -31,7 +31,7 @@ fn entrants(alloc: Global, event: &Event, keys: &[u32]) -> Result<Vec<Entrant>, 
     Ok(entrants)
 }
 
-/// The numbers of the entrants, and 0 for the bye where there is an odd number of them.
+/// The numbers of the entrants, and 0 for the bye if there is an odd number of them.
 fn seats(alloc: Global, entrants: &[Entrant]) -> Result<Vec<u16>, AllocError>
     ensures { IfOk result (λ seats. seats.items
         ≡ seats_of (map (λ entrant. entrant.number) entrants.now)) }
@@ -47,7 +47,7 @@ fn seats(alloc: Global, entrants: &[Entrant]) -> Result<Vec<u16>, AllocError>
 }
 
 /// The order in which the players are paired, by number: the active ones, more match points first, then the smaller key, then the
-/// smaller number; and 0, for the bye, last where their number is odd. There is a key for each active player, by number.
+/// smaller number; and 0, for the bye, last if their number is odd. There is a key for each active player, by number.
 pub fn order(alloc: Global, event: &Event, keys: &[u32]) -> Result<Vec<u16>, AllocError>
     requires { length keys.now ≡ length (active_numbers event.now) }
     ensures ordered { IfOk result (λ order. (key : ℕ → ℕ) → AreKeys keys.now key

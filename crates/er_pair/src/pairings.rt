@@ -74,7 +74,7 @@ fn entries_at(
 /// The earliest legal pairing of an order: its pairs of entries, in their order. In a legal pairing each position stands once, each
 /// pair opens with the least position not yet used, and no two that are paired have met; the earlier of two has the smaller partner
 /// in the first pair in which they differ. The entries are distinct, each at most 512, and 0, for the bye, stands only as the last.
-/// `Budget` comes where more than a million candidates would have to be looked at. The search goes as deep as there are tables.
+/// `Budget` comes if more than a million candidates would have to be looked at. The search goes as deep as there are tables.
 pub fn first_pairing(alloc: Global, order: &[u16], met: &Met) -> Result<Vec<(u16, u16)>, PairFault>
     requires few { length order.now ≤ MAX_PLAYERS }
     requires even { length order.now % 2 ≡ 0 }

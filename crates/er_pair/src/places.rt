@@ -58,7 +58,7 @@ impl Places {
     }
 }
 
-/// So many rows, each without a place.
+/// `count` rows, each without a place.
 pub fn empty_rows(alloc: Global, count: usize) -> Result<Vec<Places>, AllocError>
     ensures count { IfOk result (λ rows. length rows.items ≡ count) }
     ensures empty { IfOk result (λ rows. All (λ row. (place : ℕ)
@@ -122,7 +122,7 @@ impl Cursor {
         }
     }
 
-    /// The same walk without one of its places: where that stands in a later word, it is used from now on.
+    /// The same walk without one of its places: if that stands in a later word, it is used from now on.
     pub fn but(self, used: &mut Places, place: usize) -> Cursor
         requires word { self.index < WORDS }
         requires place { place < BITS }

@@ -29,7 +29,7 @@ ahead_of one other cursor = is_ahead one other cursor.index cursor.left
 abbrev pub IsNoneAhead : Places → Places → Cursor → ℕ → Type 0
 IsNoneAhead one other cursor end = HoldsNowhere (ahead_of one other cursor) 0 end
 
--- the first place that is ahead and before the end, and the cursor behind it
+-- the first place that is ahead and before the end, and the cursor after it
 abbrev pub IsNext : Places → Places → Cursor → Cursor → ℕ → ℕ → Type 0
 IsNext one other cursor behind end place =
     (place < end) × IsFirstPlace (ahead_of one other cursor) 0 end place

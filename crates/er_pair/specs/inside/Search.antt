@@ -14,12 +14,12 @@ use Rattle.er_pair.specs.inside.Places.{has_place, ahead_of, row_at}
 abbrev pub Answer : Type 0
 Answer = Option (List Pair) × ℕ
 
--- after one step for the pair and those for the others: it stops where they were paired, and else goes on
+-- after one step for the pair and those for the others: it stops if they were paired, and else goes on
 unfoldable pub after_step : Pair → Option (List Pair) → ℕ → Answer → Answer
 after_step pair (Some more) steps later = (Some (pair ∷ more), suc steps)
 after_step pair None steps later = (later.0, suc (steps + later.1))
 
--- the candidates of the first that are left, in turn; where it pairs with one, the others are those passed and those left after it
+-- the candidates of the first that are left, in turn; if it pairs with one, the others are those passed and those left after it
 unfoldable pub tries : (ℕ → ℕ → Bool) → (List ℕ → Answer) → ℕ → List ℕ → List ℕ → Answer
 tries met others first passed [] = (None, zero)
 tries met others first passed (candidate ∷ left) =
@@ -35,7 +35,7 @@ search_within met (suc bound) (first ∷ rest) = tries met (search_within met bo
 unfoldable pub search_of : (ℕ → ℕ → Bool) → List ℕ → Answer
 search_of met list = search_within met (length list) list
 
--- what a search that may make so many steps leaves: the pairs found, and the steps that are left
+-- what a search that may take `steps` steps leaves: the pairs found, and the steps that are left
 abbrev pub SearchAnswers : Answer → ℕ → List Pair → ℕ → Outcome → Type 0
 SearchAnswers answer steps found left Paired = (answer.0 ≡ Some found) × (left + answer.1 ≡ steps)
 SearchAnswers answer steps found left DeadEnd = (answer.0 ≡ None) × (left + answer.1 ≡ steps)
@@ -53,11 +53,11 @@ free_ahead used cursor end = filter (ahead_of used used cursor) (range_with_len 
 abbrev pub answer_ahead : List Places → Places → Cursor → Answer
 answer_ahead rows used ahead = search_of (met_in rows) (free_ahead used ahead (length rows))
 
--- what is ahead can't be paired, and a search finds that after so many steps
+-- what is ahead can't be paired, and a search finds that after `steps` steps
 abbrev pub IsDeadAhead : List Places → Places → Cursor → ℕ → Type 0
 IsDeadAhead rows used ahead steps = ((answer_ahead rows used ahead).0 ≡ None) × ((answer_ahead rows used ahead).1 ≡ steps)
 
--- what is kept of a dead end, but where no place is left, is so whatever is used
+-- what is kept of a dead end, unless no place is left, is so whatever is used
 abbrev pub IsTrueDeadEnd : List Places → KnownDeadEnd → Type 0
 IsTrueDeadEnd rows known = 0 < known.left → (used : Places)
     → IsDeadAhead rows used (record { index = known.index; left = known.left }) known.steps

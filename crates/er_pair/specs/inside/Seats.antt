@@ -21,7 +21,7 @@ abbrev pub AreByNumber : List (List ℕ) → List ℕ → List Places → Type 0
 AreByNumber met order rows = (number p : ℕ) → number < length rows → number < NUMBERS → p < length order →
     has_place (row_at rows number) p ≡ has_met met number (slice_index order p)
 
--- so many numbers, from 0 on, are all those of the order that can have met
+-- `count` numbers, from 0 on, are all those of the order that can have met
 abbrev pub CountsAll : List ℕ → ℕ → Type 0
 CountsAll order count = (p : ℕ) → p < length order → slice_index order p < NUMBERS → slice_index order p < count
 

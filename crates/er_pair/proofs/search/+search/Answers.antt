@@ -5,7 +5,7 @@ use Rattle.er_pair.proofs.{Trying.{rest_two_by_two, goes_on, answers_with, rest_
 use Rattle.er_pair.proofs.search.+search.Goals.{After-but-rest, Joined-more-eq1, then-more-eq1, else-more-eq1}
 use Rattle.er_pair.proofs.search.+search.Goals as goal
 
--- where there is a partner, there is a pair to write
+-- if there is a partner, there is a pair to write
 some_is : (t : ℕ) (c : Else-steps-eq0 t) → 0 < length c.loop-partner.pairs
 some_is t c =
     let list = free_first _ c.args.ahead c.next.new.self _ _ c.in-Some-next.ensures.found in
@@ -13,7 +13,7 @@ some_is t c =
     (length c.args.pairs.now) list c.requires.two_by_two in
     omega arith
 
--- and the others are two for each pair behind it
+-- and the others are two for each pair after it
 others_are : (t : ℕ) (c : After-but-rest t)
     → length (free_ahead c.but-rest.new.used c.but-rest.result (length c.args.rows.now)) ≡ 2 * (length c.loop-partner.pairs - 1)
 others_are t c =
