@@ -48,7 +48,7 @@ module _ (before : List Encounter) (player : ℕ) (opponent : Totals) where
           records = All-push IsRecorded before e are.records may.recorded;
         }
 
-    -- where one more is not possible, no longer list is
+    -- if one more is not possible, no longer list is
     pub MayMeet-last : AreEncounters players (with_match before player opponent) → MayMeet players before player opponent
     MayMeet-last are =
         let e : Encounter = record { player = player; opponent = opponent } in

@@ -80,7 +80,7 @@ pub order_of_four : in_order one_round (4 ∷ 1 ∷ 3 ∷ 2 ∷ []) ≡ replicat
 unfolding percentage average fraction_cmp
 order_of_four = refl
 
--- a bye counts, and is no opponent
+-- a bye counts, and isn't an opponent
 abbrev with_bye : EventValue
 with_bye = event_of three (round_of (played 2 1 2 0 0 ∷ played 3 0 2 0 0 ∷ []) ∷ [])
 

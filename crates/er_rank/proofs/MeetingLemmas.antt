@@ -24,7 +24,7 @@ results_of_match player round m = results_by player round m m.score
 abbrev counts : ℕ × Round → Bool
 counts numbered = is_complete numbered.1.matches
 
--- a round's matches, where it is complete
+-- a round's matches, if it is complete
 abbrev pub counted_in : Round → List Match
 counted_in r = if is_complete r.matches then r.matches else []
 

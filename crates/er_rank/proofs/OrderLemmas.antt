@@ -19,7 +19,7 @@ apart_from_range n qs same = AllPairs-from_IsDistinct {eq = ◌==◌} Decides-eq
 -- ---- one list in an order
 
 module _ {X : Type 0} (before : X → X → Bool) (one_way : (x y : X) → before x y ≡ true → before y x ≡ false) where
-  -- so many elements stand before the one at a place
+  -- k elements stand before the one at place k
   place_of : (xs : List X) → AllPairs (λ x y. before x y ≡ true) xs → (k : ℕ) (d : X) → k < length xs
       → count_by (λ x. before x (get_or xs k d)) xs ≡ k
   place_of xs sorted k d within =

@@ -39,7 +39,7 @@ count_by-agree p q (x ∷ xs) same =
     let rest = count_by-agree p q xs (λ k d below. same (suc k) d (omega arith)) in
     cc
 
--- how many pass, where the first i do and the others don't
+-- how many pass, if the first i do and the others don't
 pub count_front : {X : Type 0} (p : X → Bool) (xs : List X) (i : ℕ) → i ≤ length xs
     → ((k : ℕ) (d : X) → k < i → p (get_or xs k d) ≡ true)
     → ((k : ℕ) (d : X) → i ≤ k → k < length xs → p (get_or xs k d) ≡ false) → count_by p xs ≡ i
@@ -128,7 +128,7 @@ merit-eq a b = both_tied _ _ _ _ (back a.points.0 b.points.0 ∙ unsigned_ties b
 abbrev pub row_in : List Placing → Placing → Row
 row_in placings p = row_of (rank_in placings p) p
 
--- a list of what f gives, where it got one more
+-- a list of what f gives, after it got one more
 pub map-pushed : {X Y : Type 0} (f : X → Y) (xs : List X) (i : ℕ) (x : X) (ys after : List Y) (y : Y) → i < length xs → x ≡ get_or xs i x
     → ys ≡ map f (take i xs) → y ≡ f x → after ≡ ys ++ y ∷ [] → after ≡ map f (take (i + 1) xs)
 map-pushed f xs i x ys after y below is so_far own pushed = grind (arith, common_steps)

@@ -18,7 +18,7 @@ use Rattle.er_rank.proofs.{MeetingLemmas.results_of_match, PlacingLemmas.count_f
 abbrev IsShort : RoundResult → Type 0
 IsShort r = games_of r ≤ MAX_GAMES_OF_MATCH
 
--- the limits that the results of a player keep, with so many rounds that were missed
+-- the limits that the results of a player keep, with `missed` rounds that were missed
 pub record AreWithin (results : List RoundResult) (missed : ℕ) : Type 0 where
   pub few : length results + missed ≤ MAX_ROUNDS
   pub short : All (λ (r : RoundResult). games_of r ≤ MAX_GAMES_OF_MATCH) results

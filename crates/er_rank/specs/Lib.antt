@@ -5,12 +5,12 @@
 -- Whoever knows the rules can read it by itself. Meeting and Tally are for those who work out standings by two lists:
 -- what each player's matches come to, and who met whom.
 --
--- What private functions alone cite lies in `inside`.
+-- What only private functions cite lies in `inside`.
 --
 -- Which contract carries it:
 --   `standings`, clauses `value` and `only`, and `laws::one_standings`: the list that the rules define, and no other, of any sound event.
 --   `top`, clauses `value` and `only`, and `laws::one_top`: its first active players.
---   `standings_of`: the same list, worked out of two lists alone, of any event that has them. `are_lists` says exactly whether lists are
+--   `standings_of`: the same list, worked out of two lists only, of any event that has them. `are_lists` says exactly whether lists are
 --     within the limits of an event, which the call asks of its caller.
 --
 -- Not promised: what `standings_of` gives for lists that are of no event.

@@ -49,13 +49,13 @@ pub record AreTallies (list : List Tally) : Type 0 where
   pub numbered : map (λ t. t.no) list ≡ range_with_len 1 (length list)
   pub records : All (λ t. IsRecord t.totals) list
 
--- of so many players, each with one opponent a round at most
+-- of `players` players, each with one opponent a round at most
 pub record AreEncounters (players : ℕ) (all : List Encounter) : Type 0 where
   pub known : All (λ e. IsKnown players e.player) all
   pub few : (player : ℕ) → count_by (λ e. e.player == player) all ≤ MAX_ROUNDS
   pub records : All (λ e. IsRecord e.opponent) all
 
--- the two of a match, where there are two, are of so many players
+-- the two of a match, if there are two, are of `players` players
 abbrev pub IsKnownTo : ℕ → Match → Type 0
 IsKnownTo players m = IsFalse (is_bye m) → IsKnown players m.a × IsKnown players m.b
 

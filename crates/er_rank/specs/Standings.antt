@@ -20,7 +20,7 @@ match_win event player = let own = totals event player in percentage own.points 
 abbrev pub game_win : EventValue → ℕ → Fraction
 game_win event player = let own = totals event player in percentage own.game_points (3 * own.games)
 
--- one entry for each match; a bye is no opponent
+-- one entry for each match; a bye isn't an opponent
 abbrev pub opponents : EventValue → ℕ → List ℕ
 opponents event player = filter_map (λ r. r.opponent) (results_of event player)
 
@@ -30,7 +30,7 @@ opponents_match_win event player = average (map (match_win event) (opponents eve
 abbrev pub opponents_game_win : EventValue → ℕ → Fraction
 opponents_game_win event player = average (map (game_win event) (opponents event player))
 
--- Greater where p stands above q: the first difference decides
+-- greater if p stands above q: the first difference decides
 abbrev pub standing_cmp : EventValue → ℕ → ℕ → Ordering
 standing_cmp event p q =
     ordering_then (nat_cmp (totals event p).points (totals event q).points)
@@ -65,7 +65,7 @@ pub record AreStandings (event : EventValue) (rows : List Row) : Type 0 where
 abbrev pub first_active : List Row → ℕ → List ℕ
 first_active rows k = take k (map (λ r. r.player) (filter (λ r. not r.dropped) rows))
 
--- the first k active players of the standings, or all where there are fewer
+-- the first k active players of the standings, or all if there are fewer
 pub record IsTop (event : EventValue) (k : ℕ) (players : List ℕ) : Type 0 where
   pub rows : List Row
   pub standings : AreStandings event rows

@@ -6,7 +6,7 @@ use Rattle.er_event.specs.declared.totals.Totals.{Totals}
 abbrev pub no_totals : Totals
 no_totals = record { points = 0; rounds = 0; game_points = 0; games = 0 }
 
--- the number of one of so many players
+-- the number of one of `players` players
 abbrev pub IsKnown : ℕ → ℕ → Type 0
 IsKnown players player = (1 ≤ player) × (player ≤ players)
 

@@ -1,4 +1,4 @@
-//! Laws of standings, over the definitions alone. A law is a function with no code, whose contract is the law.
+//! Laws of standings, stated over the definitions only. A law is a function with no code, whose contract is the law.
 
 ghost use Rattle.er_rank.specs.Standings.{HasOneStandings, HasOneTop};
 

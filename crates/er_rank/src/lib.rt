@@ -49,7 +49,7 @@ pub fn standings(alloc: Global, event: &Event) -> Result<Vec<Row>, AllocError>
     standings_of(alloc, tallies.as_slice(), meetings.as_slice())
 }
 
-/// The first `k` players of the standings who have not dropped, or all of them where there are fewer.
+/// The first `k` players of the standings who have not dropped, or all of them if there are fewer.
 pub fn top(alloc: Global, event: &Event, k: usize) -> Result<Vec<PlayerNo>, AllocError>
     ensures value { IfOk result (λ players. IsTop event.now k players.items) }
     ensures only { IfOk result (λ players. OneTop event.now k players.items) }

@@ -35,7 +35,7 @@ fn are_tallies(list: &[Tally]) -> bool
 }
 
 /// Counts one match more of a player, whose opponent's matches come to this, unless that breaks a limit: the
-/// player is none of those counted, or has as many matches as there may be rounds, or the totals are too great.
+/// player isn't one of those counted, or has as many matches as there may be rounds, or the totals are too great.
 fn try_count(counts: &mut [u8], player: PlayerNo, opponent: Totals) -> bool
     ensures may { (before : List Encounter) → AreCountsOf before counts.old
         → AreEncounters (length counts.old) before
@@ -51,7 +51,7 @@ fn try_count(counts: &mut [u8], player: PlayerNo, opponent: Totals) -> bool
     true
 }
 
-/// Whether the meetings are of so many players, and keep the limits of an event's.
+/// Whether the meetings are of `players` players, and keep the limits of an event's.
 fn are_meetings(alloc: Global, players: usize, meetings: &[Meeting]) -> Result<bool, AllocError>
     ensures { IfOk result (λ are. IsTrue are ↔ AreEncounters players (encounters meetings.now)) }
 {
@@ -67,8 +67,8 @@ fn are_meetings(alloc: Global, players: usize, meetings: &[Meeting]) -> Result<b
     Ok(true)
 }
 
-/// Whether standings can be worked out by these tallies and meetings, as by those of each event. The two lists alone
-/// tell it: the tallies are numbered 1, 2, .. and no more than an event may have players, both of each meeting are
+/// Whether standings can be worked out by these tallies and meetings, as by those of each event. The two lists are
+/// enough to tell: the tallies are numbered 1, 2, .. and no more than an event may have players, both of each meeting are
 /// among them, nobody has more meetings than an event may have rounds, and all totals keep the limits of a player's.
 pub fn are_lists(alloc: Global, tallies: &[Tally], meetings: &[Meeting]) -> Result<bool, AllocError>
     ensures value { IfOk result (λ are. IsTrue are ↔ AreLists tallies.now meetings.now) }

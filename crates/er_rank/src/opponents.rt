@@ -74,7 +74,7 @@ fn meet(opponents: &mut [Opponents], player: PlayerNo, totals: Totals)
     opponents[at] = opponents[at].with(totals);
 }
 
-/// The opponents of each of so many players, by number.
+/// The opponents of each of `players` players, by number.
 pub fn opponents_of(
     alloc: Global,
     meetings: &[Meeting],
