@@ -1,4 +1,4 @@
--- What is answered to those who ask for a pairing.
+-- The answer to those who ask for a pairing.
 use Rattle.std.proofs.Common.{arith, ◌≡◌, ◌⊎◌, ◌↔◌, inl, inr, ℕ, Bool, List, None, Result, Ok, Err, IsErrAnd, refl, sym, ap, ◌∙◌}
 use Rattle.std.proofs.lemmas.Grind.{common_steps}
 use Rattle.er_event.specs.{declared.commands.Command.TheVariants.Pair, Event.EventValue, Change.with_round}
@@ -14,7 +14,7 @@ use Rattle.er_pair.specs.Pairing as pairing
 pub err_is : {T F : Type 0} (r : Result T F) (x : F) → IsErrAnd r (λ y. y ≡ x) → r ≡ Err x
 err_is h1 x h = grind (arith, common_steps)
 
--- the search has too few steps just where the order needs more, or memory didn't last
+-- memory didn't last, or the search has too few steps exactly if the order needs more
 abbrev pub IsExact : {T : Type 0} → (ℕ → ℕ → Bool) → List ℕ → Result T PairFault → Type 0
 IsExact met order found = (found ≡ Err Memory) ⊎ ((found ≡ Err (Budget MAX_STEPS)) ↔ NeedsMore met order MAX_STEPS)
 

@@ -113,7 +113,7 @@ dropped_again = refl
 abbrev reported : EventValue
 reported = event_of 3 0 Swiss four ((played 4 2 2 1 0 ∷ open_match 1 3 ∷ []) ∷ []) []
 
--- the score that stands is named, also where the same or an unlawful one is handed in
+-- the score that stands is named, even if the same or an unlawful one is handed in
 pub reported_again : refused reported
     (Result 1 1 (games 2 1 0) ∷ Result 1 1 (games 0 2 0) ∷ Result 1 1 (games 2 2 0) ∷ Result 1 2 (games 2 0 0) ∷ [])
     ≡ Some (AlreadyReported (games 2 1 0)) ∷ Some (AlreadyReported (games 2 1 0)) ∷ Some (AlreadyReported (games 2 1 0)) ∷ None ∷ []
@@ -133,7 +133,7 @@ pub scores_of_a_bye : refused with_bye
     ≡ Some IsBye ∷ Some IsBye ∷ Some IsBye ∷ Some NoSuchMatch ∷ []
 scores_of_a_bye = refl
 
--- the bye stands behind the tables, and is won
+-- the bye comes after the tables, and is won
 pub tables_of_three : tables_of ((3, 0) ∷ (2, 1) ∷ []) ≡ open_match 2 1 ∷ played 3 0 2 0 0 ∷ []
 tables_of_three = refl
 

@@ -3,7 +3,7 @@ use Rattle.std.proofs.{lemmas.Grind.common_steps, Common.{◌≡◌, ℕ, zero, 
 use Rattle.std.proofs.{Common.{get_or, Option, Some, None, refl, sym, subst, arith}, Math.ListN.set, lemmas.Option.{none-some, same_Some}}
 use Rattle.std.specs.{List.slice_get, Option.option_and_then}
 
--- where a test rules out what it finds, it is found only where the test fails
+-- if a test rules out what is found, it is found only if the test fails
 pub unless_some : {A : Type 0} (b : Bool) (o : Option A) (x : A) → cond b None o ≡ Some x → (b ≡ false) × (o ≡ Some x)
 unless_some h1 o x h = grind (arith, common_steps)
 
@@ -21,7 +21,7 @@ find_passes test (x ∷ xs) p at = grind (arith, find_passes test xs p, at)
 abbrev pub Stored : {X : Type 0} → (X → Type 0) → List X → ℕ → Type 0
 Stored {X} P xs i = (x : X) × (slice_get xs i ≡ Some x) × P x
 
--- what is read at a place, where no test rules it out
+-- what is read at a place, if no test rules it out
 pub found_stored : {X Y : Type 0} (b : Bool) (f : X → Option Y) (xs : List X) (i : ℕ) (y : Y)
     → cond b None (option_and_then f (slice_get xs i)) ≡ Some y → (b ≡ false) × Stored (λ x. f x ≡ Some y) xs i
 found_stored b f xs i y at = grind (arith, common_steps)

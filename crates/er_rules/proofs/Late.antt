@@ -1,4 +1,4 @@
--- Tables can take what a step makes, where nobody enrols too late for them.
+-- Tables can take what a step makes, if nobody enrols too late for them.
 use Rattle.std.proofs.Common.{arith, Bool, false, not, refl, ap, length, length-append, map, List, Ok, ℕ, ◌++◌, ◌==◌, ◌&&◌, ◌∷◌, [], ◌||◌}
 use Rattle.std.proofs.Common.{◌≡◌}
 use Rattle.std.proofs.{lemmas.Bool.Decides.nat_tests, lemmas.Grind.common_steps, lemmas.List.length-map}

@@ -43,7 +43,7 @@ pub kept_on : (P : EventValue → Type 0) → ((e next : EventValue) (c : Comman
 kept_on P keeps first last [] is has = subst P (sym is) has
 kept_on P keeps first last (c ∷ cs) (next, steps, rest) has = kept_on P keeps next last cs rest (keeps first next c steps has)
 
--- where a check fails, the step refuses
+-- if a check fails, the step refuses
 pub refused_by : (e : EventValue) (c : Command) (why : Refusal) (result : Result EventValue Refusal)
     → first_refusal (checks e c) ≡ Some why → Steps e c result → result ≡ Err why
 refused_by e c why result fails steps = grind (arith, common_steps)

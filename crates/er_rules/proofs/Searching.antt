@@ -1,4 +1,4 @@
--- `Budget` is no refusal of the step: it says that the search for a pairing has too few steps.
+-- `Budget` isn't a refusal of the step: it says that the search for a pairing has too few steps.
 use Rattle.std.proofs.Common.{arith, ◌≡◌, ℕ, Bool, true, false, List, [], ◌∷◌, ◌++◌, Option, Some, None, Result, Ok, Err}
 use Rattle.std.proofs.{Common.{refl, subst}, lemmas.Grind.common_steps, lemmas.Option.{none-some, same_Some}}
 use Rattle.er_event.specs.{declared.scores.Games.Games, declared.matches.Match.Match, declared.commands.Command.Command}

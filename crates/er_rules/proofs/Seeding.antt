@@ -1,4 +1,4 @@
--- The first players of the standings: they are the event's, once each, and as many as are asked for where so many are active.
+-- The first players of the standings: they are the event's, once each, and as many as are asked for if that many are active.
 use Rattle.std.proofs.{lemmas.Grind.common_steps, Common.{◌≡◌, ◌≢◌, ℕ, zero, suc, ◌+◌, ◌<◌, ◌≤◌, not, Bool, true, false, List, [], ◌∷◌}}
 use Rattle.std.proofs.Common.{length, map, filter, take, All, AllPairs, inr, ◌++◌, ◌/◌, None, refl, Contains, get_or, sym, ap, ◌∙◌, arith}
 use Rattle.std.proofs.{lemmas.Bool.cond_both, lemmas.Bool.Decides.Decides-eqb, lemmas.List.{get_or-map, get_or_default, length-map}}
@@ -51,7 +51,7 @@ pairs_unmap R f xs all i j d before within =
 abbrev Apart : List ℕ → Type 0
 Apart ns = AllPairs (λ p q. p ≢ q) ns
 
--- where some elements are left out, the numbers of the others are as far apart as they were
+-- if some elements are left out, the numbers of the others are as far apart as they were
 apart_filter : {X : Type 0} (f : X → ℕ) (p : X → Bool) (xs : List X) → Apart (map f xs) → Apart (map f (filter p xs))
 apart_filter f p xs all =
     pairs_map (λ a b. a ≢ b) f (filter p xs) (AllPairs-filter (λ a b. f a ≢ f b) p xs (pairs_unmap (λ a b. a ≢ b) f xs all))

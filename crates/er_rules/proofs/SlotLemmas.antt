@@ -31,6 +31,6 @@ pub first_some : (e : EventValue) → IsSoundButForSeeds e → (first : List Mat
     → 0 < length first
 first_some e sound first at = grind (arith, common_steps)
 
--- so many players are the seeds of no stage
+-- any other number of players than 2, 4 or 8 are the seeds of no stage
 pub no_stage : (seeds : List ℕ) → length seeds ≢ 2 → length seeds ≢ 4 → length seeds ≢ 8 → length (first_stage seeds) ≡ 0
 no_stage seeds two four eight = grind (arith, common_steps)

@@ -36,7 +36,7 @@ is_playoff _ = false
 abbrev pub active : EventValue → List Player
 active event = filter (λ p. not p.dropped) event.players
 
--- of the round, where there is one, a match lacks its score
+-- of the round, if there is one, a match lacks its score
 abbrev pub is_round_open : Option Round → Bool
 is_round_open None = false
 is_round_open (Some round) = not (is_complete round.matches)

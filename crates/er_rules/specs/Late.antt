@@ -14,7 +14,7 @@ abbrev pub is_late : ℕ → EventValue → Command → Bool
 is_late version event (Enrol name) = version == 1 && is_swiss event.phase
 is_late version event _ = false
 
--- the change that any other step makes, the tables can take
+-- the tables can take the change that any other step makes
 abbrev pub StepsAreTaken : Type 0
 StepsAreTaken = (version : ℕ) (event : EventValue) (command : Command) (change : Change)
     → Answers event command (Ok (after event change)) → IsFalse (is_late version event command) → CanTake version event change

@@ -43,7 +43,7 @@ Pairs event order (Ok next) =
     × (next ≡ record event { stored = event.stored ++ record { matches = round_of order pairs } ∷ [] })
 Pairs event order (Err why) = (why ≡ NoPairing) × ((pairs : List pairing.Pair) → IsLegal (have_met event) order pairs → ⊥)
 
--- what becomes of the event, where no check fails
+-- what becomes of the event, if no check fails
 abbrev pub Makes : EventValue → Command → Result EventValue Refusal → Type 0
 Makes event (Enrol name) result = result ≡ Ok (with_player event name)
 Makes event Start result = result ≡ Ok (with_phase event Swiss)
@@ -83,7 +83,7 @@ NeedsMoreSteps event (Pair round seed) =
     × NeedsMore (have_met event) order MAX_STEPS
 NeedsMoreSteps event command = ⊥
 
--- what a command is answered, where memory lasts: the step, unless the search that it asks for has too few steps
+-- the answer to a command, if memory lasts: the step, unless the search that it asks for has too few steps
 abbrev pub Answers : EventValue → Command → Result EventValue Refusal → Type 0
 Answers event command result =
     (Steps event command result × (NeedsMoreSteps event command → ⊥))

@@ -1,4 +1,4 @@
-//! Laws of the step, over the definitions alone. A law is a function with no code of its own, whose contract is the law.
+//! Laws of the step, stated over the definitions only. A law is a function with no code of its own, whose contract is the law.
 
 ghost use Rattle.std.specs.Prelude.{◌≡◌, ℕ, Result, Ok, Err};
 ghost use Rattle.er_event.specs.declared.commands.Command.{Command};
@@ -36,7 +36,7 @@ pub fn step_keeps_sound()
     legal_seats();
 }
 
-/// `Budget` is answered only where the search for a round needs more than its steps.
+/// `Budget` is answered only if the search for a round needs more than its steps.
 pub fn budget_searches()
     ensures { (event : EventValue) (command : Command) (steps : ℕ)
         → Answers event command (Err (Budget steps)) → NeedsMoreSteps event command }

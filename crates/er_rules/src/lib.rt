@@ -105,7 +105,7 @@ fn decide_drop(event: &Event, number: u16) -> Result<Change, Refusal>
 }
 
 /// What a command makes of an event: a change that fits it, or the refusal of the first check that fails. A sound event stays sound, its
-/// seeds too. Want of memory may come in place of either, where the command takes some, and `Budget` where the search for a pairing would
+/// seeds too. In place of either, memory may run out, if the command takes any, and `Budget` may come, if the search for a pairing would
 /// take more than a million steps. No other refusal speaks of memory, of the event's file or of how many commands it takes.
 pub fn decide(alloc: Global, event: &Event, command: &Command) -> Result<Change, Refusal>
     ensures taken { IfOk result (λ change. Fits event.now change

@@ -99,7 +99,7 @@ fn push_tables(matches: &mut Items<Match>, pairs: &[(u16, u16)]) -> Result<(), A
     Ok(())
 }
 
-/// Puts the bye at the end, where one has it.
+/// Puts the bye at the end, if one has it.
 fn push_byes(matches: &mut Items<Match>, pairs: &[(u16, u16)]) -> Result<(), AllocError>
     ensures { OnOk result (matches.new ≡ matches.old ++ filter is_bye (map match_of pairs.now)) }
 {

@@ -81,7 +81,7 @@ fn scored_stage(
     Ok(stage)
 }
 
-/// The stage of the winners, where this one is complete and has more than one slot.
+/// The stage of the winners, if this one is complete and has more than one slot.
 fn stage_after(alloc: Global, matches: &[Match]) -> Result<Option<Items<Match>>, AllocError>
     requires slots { (length matches.now ≡ 1) ⊎ (length matches.now ≡ 2)
         ⊎ (length matches.now ≡ 4) }
