@@ -44,7 +44,7 @@ pub fn first_stage(alloc: Global, seeds: &[PlayerNo]) -> Result<Items<Match>, Al
     Ok(Items::from(slots))
 }
 
-/// The matches of the stage after this one by slot, where this one has 2 or 4 matches, each of which somebody won.
+/// The matches of the stage after this one, by slot. This one has 2 or 4 matches, each of which somebody won.
 pub fn next_stage(alloc: Global, matches: &[Match]) -> Result<Items<Match>, AllocError>
     requires slots { (length matches.now ≡ 2) ⊎ (length matches.now ≡ 4) }
     requires won { All IsWon matches.now }
