@@ -33,7 +33,7 @@ pub record AnswersDesk (Represented : Type 0) (old : DeskState) (question : Ques
   pub does : DoesAsked old question told new
   pub due : Represented → IsFalse old.needs_reopen → IsAnswerAt old.version (point_of old) question told
 
--- the reply that is told, where one is
+-- the reply that is told, if one is
 abbrev pub replies_of : Told → List Reply
 replies_of (Accepted receipt) = Ok receipt ∷ []
 replies_of (Refused why) = Err why ∷ []

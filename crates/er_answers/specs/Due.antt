@@ -1,4 +1,4 @@
--- What is answered at a point: an event, and how many commands made it.
+-- The answer at a point: an event, and how many commands made it.
 use Rattle.std.specs.Prelude.{◌≡◌, ◌⊎◌, ℕ, List}
 use Rattle.er_event.specs.declared.refusals.Refusal.{Refusal}
 use Rattle.er_event.specs.Slip.{slip_of}
@@ -14,7 +14,7 @@ use Rattle.er_answers.specs.declared.question.Question.TheVariants.{Submit, Stan
 use Rattle.er_answers.specs.declared.question.Told.{Told}
 use Rattle.er_answers.specs.declared.question.Told.TheVariants.{Accepted, Text, Refused}
 
--- What is due where memory and the device serve, over tables of this version: to a command its reply, to a migration the serial, and
+-- What is due if memory and the device serve, over tables of this version: to a command its reply, to a migration the serial, and
 -- else a text of the event.
 abbrev pub IsDueAt : ℕ → Point → Question → Told → Type 0
 IsDueAt version point (Submit command) told =
@@ -29,7 +29,7 @@ IsDueAt version point Migrate told = told ≡ Accepted (receipt point.serial)
 abbrev pub OrFault : Type 0 → Told → Type 0
 OrFault Is told = Is ⊎ ((why : Refusal) × IsFault why × (told ≡ Refused why))
 
--- What is answered: what is due, or a fault of memory or of the device. A command gets a fault of the device only in place of a receipt.
+-- The answer: what is due, or a fault of memory or of the device. A command gets a fault of the device only in place of a receipt.
 abbrev pub IsAnswerAt : ℕ → Point → Question → Told → Type 0
 IsAnswerAt version point (Submit command) told =
     (reply : Reply) × IsLawfulReply version point.event point.serial command reply × (told ≡ reply_told reply)

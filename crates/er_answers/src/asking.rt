@@ -126,7 +126,7 @@ fn migrate<S: Alter>(desk: &mut Desk<S>) -> Told
     }
 }
 
-/// What a desk answers. Only a command and a migration change its event or its tables; a fault of its store stops it.
+/// Asks a desk, and returns its answer. Only a command and a migration change its event or its tables; a fault of its store stops it.
 pub fn ask<S: Alter>(alloc: Global, desk: &mut Desk<S>, question: Question) -> Told
     ensures answers { AnswersDesk
         (HasCleanDisk (state S.Store desk.new) × HoldsOwnEvent S.Store desk.old)

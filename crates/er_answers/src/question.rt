@@ -1,6 +1,6 @@
 use er_event::{Command, Items, Receipt, Refusal};
 
-/// What the desk of an event is asked.
+/// A question to the desk of an event.
 #[derive(Debug, Drop)]
 pub enum Question {
     /// To take a command.
@@ -15,7 +15,7 @@ pub enum Question {
     Migrate,
 }
 
-/// A text that the event alone determines.
+/// A text that depends only on the event.
 #[derive(Clone, Copy, Debug, PartialEq, Eq)]
 pub enum View {
     Players,
@@ -28,7 +28,7 @@ pub enum View {
     ResultsCsv,
 }
 
-/// What the desk answers.
+/// An answer of the desk.
 #[derive(Drop)]
 pub enum Told {
     Accepted(Receipt),
