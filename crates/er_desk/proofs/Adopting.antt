@@ -36,11 +36,11 @@ placed_is placed e n v event serial version = rw (event, serial, version) refl
 pub shows_as : (v : ℕ) (s : State) (e f : EventValue) (m n : ℕ) → f ≡ e → n ≡ m → RepresentsNow v s e m → RepresentsNow v s f n
 shows_as v s e f m n event serial shows = rw (event, serial) shows
 
--- the event's rows are read where the tables are
+-- the event's rows are read if the tables are
 pub read_whole : (db : Database) (parts : Parts) → ReadsParts db parts → ReadsEvent db.schema
 read_whole db parts reads = ap is_ok reads.event.1.is
 
--- want of memory names no fault of the tables
+-- running out of memory names no fault of the tables
 pub memory_names : (db : Database) → NamesFirstFault db Memory
 memory_names db = record {
   no_event = λ is. absurd (cc);
@@ -109,7 +109,7 @@ none_zipped : {A B : Type 0} (P : A → B → Type 0) (bs : List B) → AllZip P
 none_zipped P [] all = refl
 none_zipped P (b ∷ bs) all = absurd all
 
--- where no object is listed there is none
+-- if no object is listed there is none
 pub unlisted : (db : Database) → IsDatabase db → db.trees catalog_tree ≡ [] → db.schema ≡ no_schema
 unlisted db sound none =
     let listed = sound.lists.listed in

@@ -1,4 +1,4 @@
--- What a desk's call does that only reads, by what its store's call does.
+-- What a desk's call that only reads does, by what its store's call does.
 use Rattle.std.proofs.Common.{◌≡◌, inl, inr, Bool, Result, Ok, Err, OnOk, OnErr, IsFalse, IsTrue, refl, sym, subst, ◌∙◌, true≢false}
 use Rattle.sqlite.specs.{Tree.Trees, State.{State, HasCleanDisk, IsUnchanged}, Held.Held}
 use Rattle.sqlite.specs.Held as sqlite

@@ -62,7 +62,7 @@ all_wait old new (c ∷ cs) (y ∷ rs) (mid, turn, rest) was zero r at = sym (sa
 all_wait old new (c ∷ cs) (y ∷ rs) (mid, turn, rest) was (suc k) r at =
     all_wait mid new cs rs rest (stopped_of old mid c y turn (inl was)) k r at
 
--- a fault of the store is behind a desk that stops
+-- a desk stops after a fault of the store
 runs_stopped_by : (old new : DeskState) (cs : List Command) (rs : List Reply) → Runs old cs rs new → IsTrue new.needs_reopen
     → IsTrue old.needs_reopen ⊎ ((k : ℕ) × FailsAt rs k)
 runs_stopped_by old new [] [] is stopped = inl (sym (ap (λ (s : DeskState). s.needs_reopen) is) ∙ stopped)

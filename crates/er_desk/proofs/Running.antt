@@ -92,7 +92,7 @@ pub session_waits : (old mid : DeskState) (cs : List Command) (rs : List Reply) 
     → Runs old cs rs mid → session_of (cs ++ c ∷ []) (rs ++ r ∷ []) true ≡ session_of cs rs true
 session_waits old mid cs rs c r answer is = grind (arith, common_steps, refused_push, waited_push)
 
--- where the doubt is a command that the step takes, the session may end before or after it
+-- if the doubt is a command that the step takes, the session may end before or after it
 ends_either : (first : Placed) (mid : DeskState) (s : Session) (c : Command) (next : EventValue) (trees : Trees)
     → LeadsTo first.point s.acknowledged (point_of mid) → s.in_doubt ≡ Some c → Steps mid.event c (Ok next)
     → Either (IsStoredAt (placed_at (point_of mid) first.version)) (IsStoredAfter (placed_at (point_of mid) first.version) c) trees
@@ -143,7 +143,7 @@ was_running old new command reply runs h1 = grind (arith, common_steps)
 
 -- ---- desks
 
--- other tables stay from one command to the next, also where the desk has stopped
+-- other tables stay from one command to the next, even if the desk has stopped
 module _ {S : Type 0} (g : Ghosts S) (first old new : Desk S g) where
   pub keeps_more : version_in old ≡ version_in first → (IsTrue (desk_state old).needs_reopen → new ≡ old)
       → (IsFalse (desk_state old).needs_reopen → HoldsOwnEvent g old)

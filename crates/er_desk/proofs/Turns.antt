@@ -34,7 +34,7 @@ module _ (old : DeskState) (runs : IsFalse old.needs_reopen) (command : Command)
       → Outcome old command (Err why) old
   declines why cause own = inr (inl (record { was_running = runs; same = refl; why = why; answered = refl; cause = cause; own = own }))
 
-  -- the step refuses it, or memory is wanting
+  -- the step refuses it, or memory ran out
   pub declined : (result : Reply) (why : Refusal) → IsErrAnd result (λ e. e ≡ why) → (why ≡ Memory) ⊎ Answers old.event command (Err why)
       → (why ≡ Memory) ⊎ IsOfRules why → Outcome old command result old
   declined (Ok r) why is cause named = absurd is
@@ -171,7 +171,7 @@ no_budget why steps (inl full) is = cc
 no_budget why steps (inr late) is = cc
 
 module _ (old new : DeskState) (command : Command) where
-  -- where the search has too few steps, the step said so
+  -- if the search has too few steps, the step said so
   pub turn_budget : (result : Reply) → Outcome old command result new → (steps : ℕ) → result ≡ Err (Budget steps)
       → Answers old.event command (Err (Budget steps))
   turn_budget result (inl it) steps is = absurd (no_receipt _ _ (sym it.answered ∙ is))
@@ -194,7 +194,7 @@ module _ (old new : DeskState) (command : Command) where
   not_taken next needs (inl (steps, enough)) = enough needs
   not_taken next needs (inr (is, more)) = cc
 
-  -- and it always says so, where memory lasts
+  -- and it always says so, if memory lasts
   pub turn_searched : (result : Reply) → Outcome old command result new → IsFalse old.needs_reopen → NeedsMoreSteps old.event command
       → (result ≡ Err Memory) ⊎ ((steps : ℕ) × (result ≡ Err (Budget steps)))
   turn_searched result (inl it) runs needs = absurd (not_taken _ needs it.taken)
@@ -283,7 +283,7 @@ module _ {S : Type 0} (g : Ghosts S) (old new : Desk S g) (result : Reply) where
           subst (λ (d : Desk S g). RecoversJust (state g d) (placed_of (desk_state old))) (sym own.0) leaves
       left why (inr is) runs = absurd (stops is.0 runs)
 
--- a change for which memory is wanting beside the store leaves all as it was
+-- a change for which memory runs out outside the store leaves all as it was
 pub untaken : {S : Type 0} (g : Ghosts S) (desk : Desk S g) (change : Change) (reply : Reply) (why : Refusal)
     → IsErrAnd reply (λ e. e ≡ why) → why ≡ Memory → (HoldsOwnEvent g desk → RecoversJust (state g desk) (placed_of (desk_state desk)))
     → TakesChange g desk change reply desk

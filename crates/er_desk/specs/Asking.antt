@@ -1,4 +1,4 @@
--- What a call does to the file, where it asks a session of the desk: commands, or nothing.
+-- What a call does to the file, if it asks a session of the desk: commands, or nothing.
 use Rattle.std.specs.Prelude.{◌≡◌, ◌⊎◌, ◌↔◌, ◌++◌, ℕ, List, [], ◌∷◌, IsTrue, IsFalse, Option, Some, None, Err, IfErr, OnOk, OnErr}
 use Rattle.sqlite_trees.specs.declared.store.Store.{Ghosts}
 use Rattle.sqlite.specs.State.{HasCleanDisk}
@@ -18,12 +18,12 @@ use Rattle.er_desk.specs.Run.{Runs, Session, IsStoredEnd, session_of, no_session
 use Rattle.er_desk.specs.History.{Ended, IsHistory, LeadsTo}
 use Rattle.er_desk.specs.Headline.{RecoversJust, RecoversEither, RecoversEnd, NextBegins, IsBeginning, Recovers, RecoversHistory, and_then}
 
--- the later doubt, where there is one
+-- the later doubt, if there is one
 abbrev pub later_in_doubt : Option Command → Option Command → Option Command
 later_in_doubt doubt None = doubt
 later_in_doubt doubt (Some later) = Some later
 
--- one session behind the other, of one desk
+-- one session after the other, of one desk
 abbrev pub join_sessions : Session → Session → Session
 join_sessions one two = record { acknowledged = one.acknowledged ++ two.acknowledged; in_doubt = later_in_doubt one.in_doubt two.in_doubt }
 
@@ -39,7 +39,7 @@ pub record Asks {S : Type 0} (g : Ghosts S) (old : Desk S g) (session : Session)
   pub represents : HasCleanDisk (state g new) → HoldsOwnEvent g old → IsFalse (desk_state new).needs_reopen → HoldsOwnEvent g new
   pub others : HasCleanDisk (state g new) → HoldsOwnEvent g old → IsTrue (state g new).is_open
       → KeepsOthers (version_in old) (state g old).now (state g new).now
-  -- and all of them, where no command was kept
+  -- and all of them, if no command was kept
   pub kept : session.acknowledged ≡ [] → HasCleanDisk (state g new) → HoldsOwnEvent g old → KeepsTables (state g old) (state g new)
   -- in the version that they were in
   pub version : version_in new ≡ version_in old
@@ -53,14 +53,14 @@ AsksSome g old Does new = (session : Session) × Does (desk_state old) session (
 -- What handing one command to a desk does.
 pub record Submits {S : Type 0} (g : Ghosts S) (old : Desk S g) (command : Command) (reply : Reply) (new : Desk S g) : Type 0 where
   pub turn : Outcome (desk_state old) command reply (desk_state new)
-  -- A fault of the store stops the desk, and nothing else does. `NeedsReopen` comes exactly where it was stopped.
+  -- A fault of the store stops the desk, and nothing else does. `NeedsReopen` comes exactly if it was stopped.
   pub stops : IsTrue (desk_state new).needs_reopen ↔ (IsTrue (desk_state old).needs_reopen ⊎ Stops (desk_state old) command reply
       (desk_state new))
   pub fault : (cause : Cause) → reply ≡ Err (StoreFault cause) → IsTrue (desk_state new).needs_reopen
   pub asks : (reply ≡ Err NeedsReopen) ↔ IsTrue (desk_state old).needs_reopen
   -- a session of this one command
   pub asked : Asks g old (session_of (command ∷ []) (reply ∷ []) (desk_state new).needs_reopen) new
-  -- A refusal that is no fault of the store leaves all as it was, and none changes a table.
+  -- A refusal that isn't a fault of the store leaves all as it was, and none changes a table.
   pub same : IfErr reply (λ _. IsFalse (desk_state new).needs_reopen → new ≡ old)
   pub kept : HasCleanDisk (state g new) → OnErr reply (KeepsTables (state g old) (state g new))
   -- With a receipt a crash leaves the event after the command, after a fault of the store the event before or after it,
@@ -71,12 +71,12 @@ pub record Submits {S : Type 0} (g : Ghosts S) (old : Desk S g) (command : Comma
   pub refused : HoldsOwnEvent g old
       → IfErr reply (λ _. IsFalse (desk_state new).needs_reopen → RecoversJust (state g new) (placed_of (desk_state old)))
 
--- two calls of a desk, one after the other, ask the two sessions one behind the other
+-- two calls of a desk, one after the other, ask the two sessions in that order
 abbrev pub AsksThen : {S : Type 0} → Ghosts S → Type 0
 AsksThen {S} g = (old mid new : Desk S g) (one two : Session) → Asks g old one mid → Asks g mid two new
     → Asks g old (join_sessions one two) new
 
--- A first session has led to this point. Where the second leads from there, the two joined lead from where the first began; and where
+-- A first session has led to this point. The two joined lead from where the first began to where the second leads from there; and if
 -- the first left nothing in doubt, they end where the second does.
 pub record JoinsOn (first mid : Point) (one two : Session) : Type 0 where
   pub leads : (last : Point) → LeadsTo mid two.acknowledged last → LeadsTo first (join_sessions one two).acknowledged last
@@ -86,16 +86,16 @@ pub record JoinsOn (first mid : Point) (one two : Session) : Type 0 where
 abbrev pub SessionsJoin : Type 0
 SessionsJoin = (first mid : Point) (one two : Session) → LeadsTo first one.acknowledged mid → JoinsOn first mid one two
 
--- the session of a list, and one command more behind it, are the session of the longer list
+-- the session of a list, and one more command after it, are the session of the longer list
 abbrev pub ListsGrow : Type 0
 ListsGrow = (old mid new : DeskState) (commands : List Command) (replies : List Reply) (command : Command) (reply : Reply)
     → Runs old commands replies mid → Outcome mid command reply new
     → join_sessions (session_of commands replies mid.needs_reopen) (session_of (command ∷ []) (reply ∷ []) new.needs_reopen)
     ≡ session_of (commands ++ command ∷ []) (replies ++ reply ∷ []) new.needs_reopen
 
--- Of a history of a new event. It ended at a sound event. Where what is left then is an end of a session that began
+-- Of a history of a new event. It ended at a sound event. If what is left then is an end of a session that began
 -- there, the next session begins at it. Files that represent what the session surely led to were left by the history with this session
--- behind it.
+-- after it.
 pub record GoesOnFrom (new first : Point) (ends : List Ended) : Type 0 where
   pub sound : IsSound first.event
   pub begins : (version : ℕ) (session : Session) (trees : Trees) → IsStoredEnd (placed_at first version) session trees

@@ -33,9 +33,9 @@ pub record HasCreated {S : Type 0} (g : Ghosts S) (name : List ℕ) (rounds cut 
   -- there beside it, after a crash too
   pub absent : HasCleanDisk (state g desk) → CanRead old.now.schema → ⊥
   pub beside : HasCleanDisk (state g desk) → HoldsBeside 2 (initial_event name rounds cut) old.now (state g desk)
-  -- in an empty file they stand alone
+  -- in an empty file they are the only ones
   pub alone : HasCleanDisk (state g desk) → IsEmptyFile old → (state g desk).now.schema ≡ alone_schema 2
-  -- where no foreign key waited for one of them they represent the new event, and so does each thing that a crash may leave
+  -- if no foreign key waited for one of them they represent the new event, and so does each thing that a crash may leave
   pub created : HasCleanDisk (state g desk) → NoneAwaitsFive 2 old.now.schema → HoldsOwnEvent g desk
   pub acknowledged : NoneAwaitsFive 2 old.now.schema → RecoversJust (state g desk) (placed_at (new_point name rounds cut) 2)
 
@@ -44,10 +44,10 @@ pub record HasNotCreated {S : Type 0} (g : Ghosts S) (name : List ℕ) (rounds c
     : Type 0 where
   pub mode : back.0.in_transaction ≡ false
   pub why : (back.1 ≡ BadSetup) ⊎ (back.1 ≡ EventExists) ⊎ IsFault back.1
-  -- `BadSetup` comes exactly where the limits are not met, and then the file was not touched
+  -- `BadSetup` comes exactly if the limits are not met, and then the file was not touched
   pub beyond : back.1 ≡ BadSetup → (back.0 ≡ conn) × (AreLimits rounds cut → ⊥)
   pub checked : (AreLimits rounds cut → ⊥) → back.1 ≡ BadSetup
-  -- `EventExists` comes only where something called `event` can be read, and nothing is made there
+  -- `EventExists` comes only if something called `event` can be read, and nothing is made there
   pub exists : back.1 ≡ EventExists → HasCleanDisk (sqlite.state g back.0) → CanRead (sqlite.state g conn).now.schema
       × (IsEmptyFile (sqlite.state g conn) → ⊥)
       × IsUnchanged (sqlite.state g conn) (sqlite.state g back.0)
@@ -67,7 +67,7 @@ pub record HasAdopted {S : Type 0} (g : Ghosts S) (old : State) (desk : Desk S g
   pub repeats : RepeatsNobody desk.event
   pub shows : HasCleanDisk (state g desk) → HasTables (version_in desk) old.now.schema
       → HoldsEvent (version_in desk) old.now desk.event desk.serial
-  -- where they have the schema, they represent it
+  -- if they have the schema, they represent it
   pub represents : HasCleanDisk (state g desk) → HasTables (version_in desk) old.now.schema
       → AreKeyed (version_in desk) old.now → HoldsOwnEvent g desk
   -- of tables that represent a sound event just that is found, in their version, with the seeds of its standings

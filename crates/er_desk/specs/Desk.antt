@@ -51,7 +51,7 @@ placed_of s = placed_at (point_of s) s.version
 abbrev pub IsStoredAt : Placed → Trees → Type 0
 IsStoredAt placed = tables.IsStoredIn placed.version placed.point.event placed.point.serial
 
--- in tables of this version, with no fault behind
+-- in tables of this version, with no fault so far
 abbrev pub running_at : Point → ℕ → DeskState
 running_at point version = record { event = point.event; serial = point.serial; version = version; needs_reopen = false }
 
@@ -67,7 +67,7 @@ desk_state desk = record {
   needs_reopen = store.needs_reopen desk.store;
 }
 
--- the event is shown, where memory serves and no fault of the store is behind
+-- the event is shown, if memory serves and no fault of the store came before
 abbrev pub ShowsEvent : {A : Type 0} → (Refusal → A) → DeskState → (EventValue → A → Type 0) → A → Type 0
 ShowsEvent refused desk Shows answer =
     (IsFalse desk.needs_reopen × (Shows desk.event answer ⊎ (answer ≡ refused Memory)))
@@ -128,7 +128,7 @@ module _ (old : DeskState) (command : Command) (reply : Reply) (new : DeskState)
     pub fault : IsFault why
     pub answered : reply ≡ Err why
 
-  -- a fault is behind, and nothing is done
+  -- a fault came before, and nothing is done
   pub record Waits : Type 0 where
     pub needed_reopen : IsTrue old.needs_reopen
     pub same : new ≡ old
@@ -137,7 +137,7 @@ module _ (old : DeskState) (command : Command) (reply : Reply) (new : DeskState)
   abbrev pub Outcome : Type 0
   Outcome = Accepts ⊎ Declines ⊎ Stops ⊎ Waits
 
--- Reading what the tables keep. What is read leaves the desk as it is, and so does one refusal that is no fault of the
+-- Reading what the tables keep. What is read leaves the desk as it is, and so does one refusal that isn't a fault of the
 -- store. A fault of the store stops it, and a desk that was stopped asks for reopening.
 abbrev pub Reads : {A : Type 0} → Refusal → DeskState → Result A Refusal → DeskState → Type 0
 Reads passing old result new =
@@ -149,6 +149,6 @@ Reads passing old result new =
 abbrev pub ReadsRows : {A : Type 0} → DeskState → Result A Refusal → DeskState → Type 0
 ReadsRows old result new = Reads Memory old result new
 
--- of a slip, where there may be no such match
+-- of a slip; there may be no such match
 abbrev pub ReadsSlip : DeskState → Result SlipRow Refusal → DeskState → Type 0
 ReadsSlip old result new = Reads NoSuchMatch old result new

@@ -31,14 +31,14 @@ module _ {D : Type 0} {g : Ghosts D} (image : Image) where
     -- of what a crash left of a sound event just that is found
     pub found : (placed : Placed) → Recovers image placed → IsSound placed.point.event → HasCleanDisk (state over_files desk)
         → FindsAgain over_files desk placed
-    -- where the tables have the schema, they represent what is found
+    -- if the tables have the schema, they represent what is found
     pub represents : HasCleanDisk (state over_files desk) → HasTables (version_in desk) (state over_files desk).now.schema
         → AreKeyed (version_in desk) (state over_files desk).now → HoldsOwnEvent over_files desk
     -- no table changes, and a crash leaves just what the file held
     pub kept : (db : Trees) → HoldsDatabase image db → HoldsStill (state over_files desk) db
     pub left : (db : Trees) → HoldsDatabase image db → AfterCrash (state over_files desk) (λ trees. trees ≡ db)
 
-  -- It was not. `NoEvent` and a damaged table come only for the first fault, and never where the files were not opened.
+  -- It was not. `NoEvent` and a damaged table come only for the first fault, and never if the files were not opened.
   pub record HasNotOpened (fault : OpenFault D g) : Type 0 where
     pub why : (why_of fault ≡ NoEvent) ⊎ IsLoadFault (why_of fault)
     pub unopened : WhereUnopened fault (IsFault (why_of fault))
@@ -57,15 +57,15 @@ module _ {D : Type 0} {g : Ghosts D} (image : Image) where
     -- The event was made in the file.
     pub record HasMade (desk : Desk (FileStore D g) over_files) : Type 0 where
       pub made : desk_state desk ≡ running_at (new_point name rounds cut) 2
-      -- in a file that held nothing the five tables stand alone
+      -- in a file that held nothing the five tables are the only ones
       pub alone : HoldsNothing image → HasCleanDisk (state over_files desk) → (state over_files desk).now.schema ≡ alone_schema 2
-      -- where no foreign key waited for one of them they represent it, and so does each thing that a crash may leave
+      -- if no foreign key waited for one of them they represent it, and so does each thing that a crash may leave
       pub created : NoneAwaitsIn image → HasCleanDisk (state over_files desk) → HoldsOwnEvent over_files desk
       pub acknowledged : NoneAwaitsIn image → RecoversJust (state over_files desk) (placed_at (new_point name rounds cut) 2)
       -- whatever database the file held stands as it was, and the event's tables are there beside it
       pub beside : (db : Trees) → HoldsDatabase image db → HasCleanDisk (state over_files desk)
           → MakesOver (new_point name rounds cut) db (state over_files desk)
-      -- where a crash left an event, none is made
+      -- if a crash left an event, none is made
       pub absent : (placed : Placed) → Recovers image placed → HasCleanDisk (state over_files desk) → ⊥
 
     -- It was not: a crash leaves what was there, or that with the event whole.
@@ -74,7 +74,7 @@ module _ {D : Type 0} {g : Ghosts D} (image : Image) where
       pub unopened : WhereUnopened fault (IsFault (why_of fault))
       -- of files that were not opened, what is left represents what they held, and says why
       pub spared : OnUnopened fault (SparesAt image)
-      -- `EventExists` comes only where something called `event` can be read, and just that is left
+      -- `EventExists` comes only if something called `event` can be read, and just that is left
       pub exists : why_of fault ≡ EventExists → OnRefused fault (λ conn. HasCleanDisk (file_state conn)
           → (db : Database) × HasAnEvent image db × AfterCrash (file_state conn) (λ trees. trees ≡ db.trees))
       -- of what a crash left of an event just that is left, whatever the refusal

@@ -51,7 +51,7 @@ pub record FindsAgain {S : Type 0} (g : Ghosts S) (desk : Desk S g) (placed : Pl
   pub shows : HoldsOwnEvent g desk
   pub leaves : RecoversJust (state g desk) placed
 
--- no stored round repeats an opponent or a bye: no two stored matches have the same two players, where the second of a bye is 0
+-- no stored round repeats an opponent or a bye: no two stored matches have the same two players; the second of a bye is 0
 abbrev pub RepeatsNobody : EventValue → Type 0
 RepeatsNobody event = AllPairs (λ m n. IsFalse (is_same_pairing m n)) (matches_of event.stored)
 

@@ -4,15 +4,15 @@
 -- Headline says just that, in few lines, each of which a public call cites; begin there. Reply says which replies to a
 -- command are lawful, Desk what one command does to a desk, and Run what a list of them does. History is many sessions,
 -- one after the other, Resuming sessions that send from one list, Asking what a call does to the file, and Opening why a file
--- was not opened. Migrating says what a desk answers that moves its tables to
--- version 2, and Migrations what histories with such moves come to.
+-- was not opened. Migrating says what a desk that moves its tables to version 2 answers, and Migrations what histories
+-- with such moves come to.
 --
 -- Doubt is what becomes of the command that a stop left in doubt.
 --
--- Begins is how a desk begins, Looking what a call does that only reads the tables, and Files how the file of an event is opened,
+-- Begins is how a desk begins, Looking what a call that only reads the tables does, and Files how the file of an event is opened,
 -- or made: the records that those calls' contracts are made of.
 --
--- What private functions alone cite lies in `inside`.
+-- What only private functions cite lies in `inside`.
 --
 -- Which contract carries it; docs/PROOF.md has the steps of the theorem with the field of each:
 --   `Desk::submit`, by `Submits`: one command, accepted with the next serial, declined with nothing changed, or stopped by a fault of the

@@ -1,4 +1,4 @@
--- What a call of a desk does that only reads its tables.
+-- What a call of a desk that only reads its tables does.
 use Rattle.std.specs.Prelude.{IsFalse, Result}
 use Rattle.sqlite.specs.State.{HasCleanDisk, IsUnchanged}
 use Rattle.sqlite_trees.specs.declared.store.Store.{Ghosts}
@@ -18,7 +18,7 @@ pub record ReadsTables {S A : Type 0} (g : Ghosts S) (passing : Refusal) (old : 
   pub same : HasCleanDisk (state g new) → IsFalse (desk_state new).needs_reopen → IsUnchanged (state g old) (state g new)
   pub left : ChangesNothing (state g old) (state g new)
 
--- What a desk that runs answers where its tables represent its event.
+-- What a desk that runs answers if its tables represent its event.
 abbrev pub FindsOwn : {S A : Type 0} (g : Ghosts S) → (Result A Refusal → Type 0) → Desk S g → Result A Refusal → Desk S g → Type 0
 FindsOwn g Answers old result new =
     IsFalse (desk_state old).needs_reopen → HasCleanDisk (state g new) → HoldsOwnEvent g old → Answers result

@@ -33,7 +33,7 @@ pub record MovesDesk {S : Type 0} (g : Ghosts S) (old : Desk S g) (result : Resu
       → HoldsOwnEvent g new
   -- a refusal changes no table, whatever the tables hold
   pub kept : HasCleanDisk (state g new) → OnErr result (KeepsTables (state g old) (state g new))
-  -- it is refused where the name `player2` is taken, and a crash then leaves version 1
+  -- it is refused if the name `player2` is taken, and a crash then leaves version 1
   pub taken : IsFalse (desk_state old).needs_reopen → version_in old ≡ 1 → HasCleanDisk (state g new) → IsTaken (state g old).now
       → IsErr result × (HoldsOwnEvent g old → RecoversJust (state g new) (placed_of (desk_state old)))
   -- with `Ok` each thing that a crash may leave is of version 2, and `player` has no rows

@@ -1,4 +1,4 @@
--- Histories in which tables are moved to version 2 between commands. A migration is no command: it changes neither the
+-- Histories in which tables are moved to version 2 between commands. A migration isn't a command: it changes neither the
 -- event nor the serial, and what is said of sessions passes over it.
 use Rattle.std.specs.Prelude.{◌≡◌, ◌⊎◌, ℕ, List, [], ◌∷◌, map, Option, Some, None}
 use Rattle.er_event.specs.declared.commands.Command.{Command}
@@ -29,7 +29,7 @@ pub record MovingSession : Type 0 where
   pub acknowledged : List Request
   pub in_doubt : Option Request
 
--- its commands alone
+-- only its commands
 abbrev pub passed_over : MovingSession → Session
 passed_over s = record { acknowledged = commands_in s.acknowledged; in_doubt = command_in s.in_doubt }
 

@@ -43,11 +43,11 @@ HasOtherSeeds db =
     (event : EventValue) × (serial : ℕ) × (version : ℕ) × ReadsParts db (parts_of version event serial) × ReadsTallies db (tally_rows event)
     × IsSoundButForSeeds event × (serial ≤ MAX_SERIAL) × (HasSeeds event → ⊥)
 
--- this table is the first at fault, where seeds are looked at last
+-- this table is the first at fault; seeds are looked at last
 abbrev pub IsFirstAtFault : Database → Place → Type 0
 IsFirstAtFault db place = IsAtFault db place ⊎ ((place ≡ BracketTable) × HasOtherSeeds db)
 
--- The refusal of an opening names the first fault: no event only where the event's rows cannot be read, and a table only where they can.
+-- The refusal of an opening names the first fault: no event only if the event's rows cannot be read, and a table only if they can.
 pub record NamesFirstFault (db : Database) (why : Refusal) : Type 0 where
   pub no_event : why ≡ NoEvent → ReadsEvent db.schema → ⊥
   pub readable : IfDamaged (λ _. ReadsEvent db.schema) why
@@ -66,7 +66,7 @@ pub record ChangesNothing (old new : State) : Type 0 where
   pub crash : AfterCrash new old.may_leave
   pub left : IsTrue old.is_open → AfterCrash new (λ db. db ≡ old.committed.trees)
 
--- An event was not made. No table changes. Where one can be read, a crash leaves what it could before; where no foreign key waited for
+-- An event was not made. No table changes. If an event can be read, a crash leaves what it could before; if no foreign key waited for
 -- one of its tables that, or the new event whole; in any file what was there, or that with the event's tables beside it.
 pub record MakesNothing (new_event : Point) (old new : State) : Type 0 where
   pub kept : HasCleanDisk new → KeepsTables old new
@@ -119,8 +119,8 @@ abbrev pub HoldsStill : State → Trees → Type 0
 HoldsStill s db = HasCleanDisk s → IsTrue s.is_open → (s.now.trees ≡ db) × (s.now ≡ s.committed)
 
 module _ {D : Type 0} {g : Ghosts D} where
-  -- What the storage crate says of files that it did not open. Nothing is left of them only if they can't be had, by the system, for want
-  -- of memory, or since another program holds them. What is left represents what the files held, and they are why.
+  -- What the storage crate says of files that it did not open. Nothing is left of them only if they can't be had: by the system, because
+  -- memory ran out, or since another program holds them. What is left represents what the files held, and they are why.
   abbrev pub SparesAt : Image → Error → Option (Leftover D g) → Type 0
   SparesAt image error None =
       (error ≡ SqliteFailure CannotOpen) ⊎ (error ≡ SqliteFailure OutOfMemory) ⊎ (error ≡ SqliteFailure DatabaseBusy)
@@ -138,7 +138,7 @@ module _ {D : Type 0} {g : Ghosts D} where
   why_of (Unopened error left) = store_refusal error
   why_of (Refused conn refusal) = refusal
 
-  -- of the connection, where one comes back
+  -- of the connection, if one comes back
   abbrev pub OnRefused : OpenFault D g → (Held (FileStore D g) → Type 0) → Type 0
   OnRefused (Unopened error left) P = Unit {0}
   OnRefused (Refused conn refusal) P = P conn
@@ -146,7 +146,7 @@ module _ {D : Type 0} {g : Ghosts D} where
   abbrev pub IsCleanFault : OpenFault D g → Type 0
   IsCleanFault fault = OnRefused fault (λ conn. HasCleanDisk (file_state conn))
 
-  -- where the files were not opened
+  -- if the files were not opened
   abbrev pub WhereUnopened : OpenFault D g → Type 0 → Type 0
   WhereUnopened (Unopened error left) P = P
   WhereUnopened (Refused conn refusal) P = Unit {0}

@@ -27,14 +27,14 @@ acknowledged_commands (command ∷ commands) (Err why ∷ replies) = acknowledge
 acknowledged_commands [] replies = []
 acknowledged_commands (command ∷ commands) [] = []
 
--- the store had a fault in the command of this place, and the later ones were answered that the file wants to be opened anew
+-- the store had a fault in the command of this place, and the later ones were answered that the file has to be opened anew
 abbrev pub FailsAt : List Reply → ℕ → Type 0
 FailsAt replies k =
     ((why : Refusal) × IsFault why × (slice_get replies k ≡ Some (Err why)))
     × ((later : ℕ) (reply : Reply) → k < later → slice_get replies later ≡ Some reply → reply ≡ Err NeedsReopen)
 
 -- The run in plain words. Each reply is lawful at the fold of the commands that were acknowledged before it, or says
--- that the file wants to be opened anew.
+-- that the file has to be opened anew.
 pub record IsRun (old : DeskState) (commands : List Command) (replies : List Reply) (new : DeskState) : Type 0 where
   pub all : length replies ≡ length commands
   pub each : (k : ℕ) (command : Command) (reply : Reply) → slice_get commands k ≡ Some command → slice_get replies k ≡ Some reply
@@ -44,7 +44,7 @@ pub record IsRun (old : DeskState) (commands : List Command) (replies : List Rep
   pub event_is : Folds old.event (acknowledged_commands commands replies) new.event
   pub serial_is : new.serial ≡ old.serial + length (acknowledged_commands commands replies)
   pub version_is : new.version ≡ old.version
-  -- the desk is stopped where it was before, or by a fault of the store in one of the commands
+  -- the desk is stopped if it was before, or by a fault of the store in one of the commands
   pub stopped_by : IsTrue new.needs_reopen → IsTrue old.needs_reopen ⊎ ((k : ℕ) × FailsAt replies k)
   pub needed_reopen : IsTrue old.needs_reopen
       → IsTrue new.needs_reopen × ((k : ℕ) (reply : Reply) → slice_get replies k ≡ Some reply → reply ≡ Err NeedsReopen)
@@ -74,7 +74,7 @@ last_tried (command ∷ commands) (reply ∷ replies) = tried_or (last_tried com
 last_tried [] replies = None
 last_tried (command ∷ commands) [] = None
 
--- the session of a run: where the store has failed, it failed in the last command that was tried
+-- the session of a run: if the store has failed, it failed in the last command that was tried
 abbrev pub session_of : List Command → List Reply → Bool → Session
 session_of commands replies needs_reopen = record {
   acknowledged = acknowledged_commands commands replies;

@@ -1,2 +1,2 @@
--- What private functions alone cite.
+-- What only private functions cite.
 pub mod Taking

@@ -12,7 +12,7 @@ use sqlite_disk::Disk;
 /// is paid once.
 pub fn into_connection<D: Disk + Drop>(desk: Desk<FileStore<D>>) -> Connection<FileStore<D>>
     ensures same { result ≡ tables.connection desk.store }
-    // Where the tables represent the event, a crash leaves just that.
+    // If the tables represent the event, a crash leaves just that.
     ensures left { HoldsOwnEvent over_files desk
         → RecoversJust (state over_files desk) (placed_of (desk_state desk)) }
 {

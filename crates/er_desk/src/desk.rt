@@ -116,7 +116,7 @@ impl<S: Alter> Desk<S> {
         }
     }
 
-    /// The event, where no fault of the store is behind.
+    /// The event, if no fault of the store came before.
     pub fn event(&self) -> Result<&Event, Refusal>
         ensures value { IfOk result (λ event. event.now ≡ self.now.event) }
         ensures repeats { IfOk result (λ event. RepeatsNobody event.now) }
@@ -128,7 +128,7 @@ impl<S: Alter> Desk<S> {
         Ok(&self.event)
     }
 
-    /// How many commands were accepted, where no fault of the store is behind.
+    /// How many commands were accepted, if no fault of the store came before.
     pub fn serial(&self) -> Result<u32, Refusal>
         ensures value { IfOk result (λ serial. (serial ≡ self.now.serial) × (serial ≤ MAX_SERIAL)) }
         ensures needs_reopen { IfRunning (desk_state self.now) result }
@@ -150,14 +150,14 @@ impl<S: Alter> Desk<S> {
         Ok(standings(alloc, event)?)
     }
 
-    /// The standings of the event, by the totals and the meetings that its tables keep. It changes no table. Standings, and want of memory
-    /// to work them out, leave the desk as it is.
+    /// The standings of the event, by the totals and the meetings that its tables keep. It changes no table. An answer with standings
+    /// leaves the desk as it is, and so does running out of memory to work them out.
     pub fn stored_standings(&mut self, alloc: Global) -> Result<Vec<Row>, Refusal>
         ensures reads { ReadsTables S.Store Refusal.Memory self.old result self.new }
         ensures found { FindsOwn S.Store
             (OrFails (λ rows. AreTheStandings self.old.event rows.items)) self.old result self.new }
     {
-        // What the tables represent, a crash leaves, and an event is always sound: these tell the proof.
+        // A crash leaves what the tables represent, and an event is always sound: these tell the proof.
         shown_is_stored(&self.store);
         events_are_sound(&self.event);
         if self.needs_reopen() {
@@ -172,7 +172,7 @@ impl<S: Alter> Desk<S> {
         ensures found { FindsOwn S.Store (FindsSlipOrFails self.old.event round table) self.old
             result self.new }
     {
-        // What the tables represent, a crash leaves, and an event is always sound: these tell the proof.
+        // A crash leaves what the tables represent, and an event is always sound: these tell the proof.
         shown_is_stored(&self.store);
         events_are_sound(&self.event);
         if self.needs_reopen() {
@@ -185,16 +185,16 @@ impl<S: Alter> Desk<S> {
     pub fn asks_nothing(&self)
         ensures { Asks S.Store self.now no_session self.now }
     {
-        // What the tables represent, a crash leaves: this tells the proof.
+        // A crash leaves what the tables represent: this tells the proof.
         shown_is_stored(&self.store);
     }
 
-    /// Two calls of a desk, one after the other, ask the two sessions one behind the other. It is a law, with no code of its own.
+    /// Two calls of a desk, one after the other, ask the two sessions in that order. It is a law, with no code of its own.
     pub fn asks_then(&self)
         ensures { AsksThen S.Store }
     {}
 
-    /// The version in which the tables are kept, 1 or 2, where no fault of the store is behind.
+    /// The version in which the tables are kept, 1 or 2, if no fault of the store came before.
     pub fn version(&self) -> Result<u8, Refusal>
         ensures value { IfOk result (λ version. version ≡ version_in self.now) }
         ensures needs_reopen { IfRunning (desk_state self.now) result }
@@ -209,7 +209,7 @@ impl<S: Alter> Desk<S> {
     pub fn migrate(&mut self) -> Result<u32, Refusal>
         ensures { MovesDesk S.Store self.old result self.new }
     {
-        // What the tables represent, a crash leaves: this tells the proof.
+        // A crash leaves what the tables represent: this tells the proof.
         shown_is_stored(&self.store);
         if self.needs_reopen() {
             return Err(Refusal::NeedsReopen);
@@ -222,7 +222,7 @@ impl<S: Alter> Desk<S> {
             .and(Ok(self.serial))
     }
 
-    /// Whether a fault of the store is behind, so that the file is to be opened anew.
+    /// Whether a fault of the store came before, so that the file has to be opened anew.
     pub fn needs_reopen(&self) -> bool
         ensures { result ≡ (desk_state self.now).needs_reopen }
     {
@@ -233,11 +233,11 @@ impl<S: Alter> Desk<S> {
     pub fn close(self) -> Connection<S>
         ensures same { result ≡ tables.connection self.store }
         ensures mode { result.in_transaction ≡ false }
-        // Where the tables represent the event, a crash leaves just that.
+        // If the tables represent the event, a crash leaves just that.
         ensures left { HoldsOwnEvent S.Store self
             → RecoversJust (state S.Store self) (placed_of (desk_state self)) }
     {
-        // What the tables represent, a crash leaves: this tells the proof.
+        // A crash leaves what the tables represent: this tells the proof.
         shown_is_stored(&self.store);
         let Desk {
             store: tables,
@@ -257,7 +257,7 @@ impl<S: Alter> Desk<S> {
 
         ensures { TakesChange S.Store self.old change.now result self.new }
     {
-        // What the tables represent, a crash leaves: this tells the proof.
+        // A crash leaves what the tables represent: this tells the proof.
         shown_is_stored(&self.store);
         let next = event_after(alloc, &self.event, change)?;
         match self.store.write(&self.event, change, self.serial) {
@@ -276,7 +276,7 @@ impl<S: Alter> Desk<S> {
     fn take(&mut self, alloc: Global, command: &Command) -> Reply
         ensures { Submits S.Store self.old command.now result self.new }
     {
-        // What the tables represent, a crash leaves: this tells the proof.
+        // A crash leaves what the tables represent: this tells the proof.
         shown_is_stored(&self.store);
         if self.needs_reopen() {
             return Err(Refusal::NeedsReopen);
@@ -292,10 +292,10 @@ impl<S: Alter> Desk<S> {
         self.write(alloc, &change)
     }
 
-    /// Takes a command. Where it is refused, and the store has no fault, all stays as it was.
+    /// Takes a command. If it is refused, and the store has no fault, all stays as it was.
     pub fn submit(&mut self, alloc: Global, command: Command) -> Reply
         ensures submits { Submits S.Store self.old command result self.new }
-        // `Budget` comes exactly where the search for a round needs more than its steps, but for memory.
+        // `Budget` comes exactly if the search for a round needs more than its steps, but for memory.
         ensures budget { (steps : ℕ) → result ≡ Err (Refusal.Budget steps)
             → NeedsMoreSteps self.old.event command }
         ensures searched { IsFalse (desk_state self.old).needs_reopen
@@ -318,12 +318,12 @@ impl<S: Alter> Desk<S> {
             (λ replies. IsRun (desk_state self.old) commands.items replies.items
             (desk_state self.new)) }
         ensures untouched { IfErr result (λ _. self.new ≡ self.old) }
-        // What it does to the file: a session of these commands, or nothing where there was no memory for the replies.
+        // What it does to the file: a session of these commands, or nothing if there was no memory for the replies.
         ensures asked { MatchResult result (λ replies. Asks S.Store self.old
             (session_of commands.items replies.items (desk_state self.new).needs_reopen) self.new)
             (λ _. Asks S.Store self.old no_session self.new) }
     {
-        // What the tables represent, a crash leaves: this tells the proof.
+        // A crash leaves what the tables represent: this tells the proof.
         shown_is_stored(&self.store);
         let mut replies = Vec::with_capacity(alloc, commands.len())?;
         for command in &commands {

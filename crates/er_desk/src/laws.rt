@@ -1,4 +1,4 @@
-//! Laws of runs and histories, over the definitions alone. A law is a function with no code of its own, whose contract is the law.
+//! Laws of runs and histories, stated over the definitions only. A law is a function with no code of its own, whose contract is the law.
 
 ghost use Rattle.er_desk.specs.Headline.{Histories};
 ghost use Rattle.er_desk.specs.Asking.{ListsGrow, NextSessions, SessionsJoin};
@@ -17,7 +17,7 @@ pub fn histories()
     step_keeps_sound();
 }
 
-/// What a session leaves is an end of the history that it goes on with, with the session behind it.
+/// What a session leaves is an end of the history that it goes on with, followed by the session.
 pub fn next_sessions()
     ensures { NextSessions }
 {

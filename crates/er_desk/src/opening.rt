@@ -19,7 +19,7 @@ use std::{error, fmt};
 /// Why a file was not opened as a desk.
 #[derive(Drop)]
 pub enum OpenFault<D: Disk + Drop> {
-    /// The files were not opened. What is left of them comes back, where they are there.
+    /// The files were not opened. What is left of them comes back, if they are there.
     Unopened {
         error: Error,
         left: Option<Leftover<D>>,
@@ -32,7 +32,7 @@ pub enum OpenFault<D: Disk + Drop> {
 }
 
 impl<D: Disk + Drop> OpenFault<D> {
-    /// What it means to a caller. That files were not opened is out of memory, or a fault of the store.
+    /// What it means to a caller. Files that were not opened mean out of memory, or a fault of the store.
     pub fn refusal(&self) -> Refusal
         ensures value { result ≡ why_of self.now }
     {

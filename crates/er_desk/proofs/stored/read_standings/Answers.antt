@@ -55,7 +55,7 @@ returns-in_err-meetings-clause-same g c clean runs =
     let stopped = (c.in_err-meetings.ensures.reads.as_call.stops (c.in_ok-tallies.ensures.reads.as_call.stops c.requires.running)).1 in
     absurd (true≢false (sym stopped ∙ runs))
 
--- ---- memory is wanting
+-- ---- memory ran out
 
 pub returns-in_err-are_lists-clause-reads : goal.returns-in_err-are_lists-clause-reads
 returns-in_err-are_lists-clause-reads g c =

@@ -114,7 +114,7 @@ returns-in-Ok-false g c =
     (λ db is_open may. g.met.S.Store.settled c.args.conn.store db is_open may)
     (λ has. true≢false (sym (c.in-Ok-false.ensures.1 has) ∙ c.in-Ok-false.field-0-test)) (search rules) (search rules)
 
--- ---- memory is wanting
+-- ---- memory ran out
 
 pub returns-in-Err : goal.returns-in-Err
 returns-in-Err g c =

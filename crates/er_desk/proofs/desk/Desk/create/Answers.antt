@@ -25,7 +25,7 @@ new_sound name rounds cut event is sound = record {
   seeds = subst HasSeeds (sym is) (λ first at. absurd (none-some first at));
 }
 
--- the limits are not met, and the file was not touched: while the connection was open, a crash could leave its last commit alone
+-- the limits are not met, and the file was not touched: while the connection was open, a crash could leave only its last commit
 pub returns-in-Err : goal.returns-in-Err
 returns-in-Err g c = record {
   mode = c.requires.mode;
