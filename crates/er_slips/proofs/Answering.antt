@@ -40,7 +40,7 @@ asks_session g old (Pairings round) told new it = it
 asks_session g old (Slip round table) told new it = it
 asks_session g old (Report round table score) told new it = it
 
--- an answer that was made, or want of memory
+-- an answer that was made, or that memory ran out
 pub made_is : (made : Result Answer AllocError) (answer due : AnswerValue) → IfOk made (λ a. answer_value a ≡ due)
     → MatchResult made (λ a. answer ≡ answer_value a) (λ _. answer ≡ refusal_answer Memory)
     → (answer ≡ due) ⊎ (answer ≡ refusal_answer Memory)
@@ -111,7 +111,7 @@ module _ (old : DeskState) (session : Session) (new : DeskState) (input : List �
       → IsAnswerUnless503 old.event old.serial input answer
   exact asked is answered = inl (submitted_command asked, record { asked = asked; asks = is; answered = answered; command = refl })
 
-  -- something is asked for by a whole request alone
+  -- only a whole request asks for something
   whole : (asked : Request) → IsRequest input (Ok asked) → (next : Next) × IsWholeRequest input next
   whole asked (headed head rest is e) = by (next_of head) refl e
     where

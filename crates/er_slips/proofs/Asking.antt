@@ -1,4 +1,4 @@
--- What a head asks for, read from its spans, and the body behind it.
+-- What a head asks for, read from its spans, and the body after it.
 use Rattle.std.proofs.{lemmas.Grind.common_steps, Common.{◌≡◌, ℕ, ◌+◌, ◌-◌, ◌<◌, ◌≤◌, ◌==◌, Bool, List, [], ◌∷◌, ◌++◌, length, take, drop}}
 use Rattle.std.proofs.Common.{get_or, All, slice_range, Option, Some, None, Result, Ok, Err, IfSome, refl, sym, ap, subst, ◌∙◌, arith}
 use Rattle.std.proofs.{Common.{length-append, length-drop, append-nil}, lemmas.List.{drop-append-le, drop-take, take-take, take-append-le}}
@@ -19,7 +19,7 @@ use Rattle.er_slips.specs.declared.request.wanted.NoRequest.TheVariants as no_re
 
 -- ---- the path is text
 
--- how long the path is, and the byte behind it
+-- how long the path is, and the byte after it
 path-cut : (t : List ℕ) → (path_of t ≡ take (length (path_of t)) t) × (length (path_of t) ≤ length t)
     × (length (path_of t) < length t → get_or t (length (path_of t)) 0 ≡ 63)
 path-cut [] = (refl, omega arith, λ l. absurd (omega arith))

@@ -94,7 +94,7 @@ a_text = refl
 
 -- ---- routes
 
--- what follows a question mark is no part of the path
+-- what follows a question mark isn't part of the path
 pub of_standings : route_of (path_of (codes "/standings?x=/")) ≡ Some route.Standings
 of_standings = refl
 

@@ -85,7 +85,7 @@ abbrev after_number : Rows
 after_number = rows_of (record { prefix = 47 ∷ []; tails = prepend (codes "tables/") ((param_token ∷ [], 2) ∷ []); height = 0 } ∷ [])
     ++ ends (Some 1)
 
--- a byte is no token
+-- a byte isn't a token
 param_only : (t : Rows) (c : ℕ) (p : List ℕ) → c < 256
     → first (prepend (param_token ∷ []) t) (c ∷ p) ≡ after_param (step param_token (prepend (param_token ∷ []) t)) (c ∷ p)
 unfolding seek

@@ -39,7 +39,7 @@ status_line status =
     else if status == 413 then codes "HTTP/1.1 413 Content Too Large\r\n"
     else codes "HTTP/1.1 503 Service Unavailable\r\n"
 
--- in a 405 alone: the methods that the route has
+-- only in a 405: the methods that the route has
 abbrev pub allow_line : Option Methods → List ℕ
 allow_line None = []
 allow_line (Some Get) = codes "Allow: GET\r\n"
@@ -81,7 +81,7 @@ status_of why = 409
 abbrev pub games_object : Games → List ℕ
 games_object g = codes "{\"a\":" ++ (decimal g.x ++ (codes ",\"b\":" ++ (decimal g.y ++ (codes ",\"d\":" ++ (decimal g.d ++ codes "}")))))
 
--- the stored score, where one is there already
+-- the stored score, if one is there already
 abbrev pub detail : Refusal → List ℕ
 detail (AlreadyReported score) = codes ",\"score\":" ++ games_object score
 detail _ = []

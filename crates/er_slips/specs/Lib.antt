@@ -1,4 +1,4 @@
--- What er_slips promises: one request, one answer, which depends on the event and on the whole input alone, however
+-- What er_slips promises: one request, one answer, which depends only on the event and the whole input, however
 -- that is cut; or a 503, if memory runs out or the store has a fault.
 --
 -- Whole is the answer to an input, and what is submitted for it. It stands on Request, which says what an input asks
@@ -6,7 +6,7 @@
 -- the byte. Serving is what one call does: to the desk, and to what is written. Retry is a score that is handed in
 -- again.
 --
--- What private functions alone cite lies in `inside`.
+-- What only private functions cite lies in `inside`.
 --
 -- Which contract carries it:
 --   `serve_one`, by `Serves`: the desk is asked what the input asks for, by the checks in their order, and its answer is written, to the

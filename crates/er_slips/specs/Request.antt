@@ -50,7 +50,7 @@ table_with None table = None
 abbrev pub behind : (beginning text : List ℕ) → Option (List ℕ)
 behind beginning text = if starts_with nat_eq text beginning then Some (drop (length beginning) text) else None
 
--- behind `/rounds/`: a round, or a round, `/tables/` and a table
+-- after `/rounds/`: a round, or a round, `/tables/` and a table
 abbrev pub round_route : List ℕ → Option Route
 round_route rest = option_map route.Round (path_round (before_slash rest))
 
@@ -87,7 +87,7 @@ abbrev pub only_length : List HeadField → Result ℕ Fault
 only_length (field ∷ []) = length_of field.1
 only_length _ = Err BadRequest
 
--- one Content-Length of digits alone, and no Transfer-Encoding
+-- one Content-Length of only digits, and no Transfer-Encoding
 abbrev pub body_length : List HeadField → Result ℕ Fault
 body_length fields =
     if list_any (is_named (codes "transfer-encoding")) fields then Err BadRequest
@@ -138,7 +138,7 @@ pub data IsRequest (input : List ℕ) (result : Result Request Fault) : Type 0 w
   headed : (head : RequestHead) (rest : List ℕ) → IsHead input head rest → result ≡ asked_of head rest → IsRequest input result
   headless : HasNoHead input → result ≡ Err BadRequest → IsRequest input result
 
--- behind a head that asks for this, its body is whole; a GET has none
+-- after a head that asks for this, its body is whole; a GET has none
 abbrev pub HasBody : List ℕ → Next → Type 0
 HasBody rest (Get asked) = Unit {0}
 HasBody rest (Body round table n) = n ≤ length rest

@@ -19,8 +19,7 @@ abbrev pub HasScore : EventValue → ℕ → ℕ → Games → Type 0
 HasScore event round table score = (stored : Match) × (match_at event round table ≡ Some stored) × (stored.score ≡ Some score)
 
 -- A score that was taken once, and is handed in again by the same input after any more commands, is answered with the
--- score that is stored then, or that
--- the event is no longer in its Swiss rounds.
+-- score that is stored then, or that the event is no longer in its Swiss rounds.
 abbrev pub Retries : Type 0
 Retries = (event next later : EventValue) (more : List Command) (round table : ℕ) (handed : Games)
     → Steps event (ReportResult round table handed) (Ok next) → Folds next more later

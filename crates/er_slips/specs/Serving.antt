@@ -86,7 +86,7 @@ IsWritten old input before after (WriteFault sent) =
     (answer : AnswerValue) × Writes before after (WriteFault sent) answer
     × IsAnswerUnless503 old.event old.serial input answer
 
--- Serving wrote just that where the desk ran and its tables represented its event.
+-- Serving wrote just that if the desk ran and its tables represented its event.
 abbrev pub WritesDue : {S : Type 0} → Ghosts S → Type 0
 WritesDue {S} g = (old new : Desk S g) (input : List ℕ) (before after : Option (List ℕ)) (served : Served)
     → Serves g (Some input) old new before after served → IsFalse (desk_state old).needs_reopen

@@ -25,7 +25,7 @@ question_of (Pairings round) = question.Show (view.Pairings round)
 question_of (Slip round table) = question.Slip round table
 question_of (Report round table score) = question.Submit (ReportResult round table score)
 
--- The answer to what is asked, where memory and the store serve. A score is never late: its reply is the same in tables of
+-- The answer to what is asked, if memory and the store serve. A score is never late: its reply is the same in tables of
 -- either version.
 abbrev pub IsAnswered : EventValue → ℕ → Result Request Fault → AnswerValue → Type 0
 IsAnswered event serial (Err fault) answer = answer ≡ fault_answer fault

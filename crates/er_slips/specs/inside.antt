@@ -1,4 +1,4 @@
--- What private functions alone cite.
+-- What only private functions cite.
 pub mod Scan
 pub mod Telling
 pub mod Sending

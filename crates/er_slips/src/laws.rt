@@ -1,4 +1,4 @@
-//! Laws of answers, over the definitions alone. A law is a function with no code of its own, whose contract is the law.
+//! Laws of answers, stated over the definitions only. A law is a function with no code of its own, whose contract is the law.
 
 ghost use Rattle.er_slips.specs.Retry.{Retries};
 ghost use Rattle.er_slips.specs.Serving.{WritesDue};
@@ -26,7 +26,7 @@ pub fn retries()
     no_double_effect();
 }
 
-/// Where a desk runs and its tables represent its event, serving a request writes the answer to it, or a 503 that names why.
+/// If a desk runs and its tables represent its event, serving a request writes the answer to it, or a 503 that names why.
 pub fn writes_due<S: Alter>(_desk: &Desk<S>)
     ensures { WritesDue S.Store }
 {}

@@ -26,7 +26,7 @@ pub use wanted::{Fault, Methods, NoRequest, Request};
 #[derive(Clone, Copy)]
 pub enum Next {
     Get(Request),
-    /// A body of so many bytes follows.
+    /// A body of `length` bytes follows.
     Body {
         round: u8,
         table: u16,
@@ -59,7 +59,7 @@ fn serves(route: Route, method: &[u8], bytes: &[u8], headers: &[HeaderSpan]) -> 
     }
 }
 
-/// What the head at the front of the bytes asks for.
+/// Reads what the head at the front of the bytes asks for.
 fn next_of(
     routes: &Routes,
     bytes: &[u8],
@@ -100,7 +100,7 @@ fn report(alloc: Global, round: u8, table: u16, body: &[u8]) -> Result<Request, 
     }
 }
 
-/// Reads a request, and says what it asks for. The answer depends on the whole input alone, however it is cut.
+/// Reads a request, and says what it asks for. The answer depends only on the whole input, however it is cut.
 pub fn read_request<R: Read>(
     alloc: Global,
     routes: &Routes,

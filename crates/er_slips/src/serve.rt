@@ -37,7 +37,7 @@ fn answer_or_memory(answer: Result<Answer, AllocError>) -> Answer
     }
 }
 
-/// The message that tells what the desk has answered.
+/// Returns the message that tells what the desk has answered.
 fn message(alloc: Global, told: &Told) -> Answer
     ensures { IsMessage told.now (answer_value result) }
 {
@@ -49,7 +49,7 @@ fn message(alloc: Global, told: &Told) -> Answer
     }
 }
 
-/// What the desk answers. It is asked once.
+/// Asks the desk once, and returns the answer.
 fn answer<S: Alter>(alloc: Global, desk: &mut Desk<S>, asked: Request) -> Answer
     ensures { AnswersAsked S.Store desk.old asked (answer_value result) desk.new }
 {

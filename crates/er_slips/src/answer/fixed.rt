@@ -93,7 +93,7 @@ fn refusal_body(refusal: &Refusal) -> ShortText
     body
 }
 
-/// The answer where the desk refused. It takes no memory.
+/// The answer if the desk refused. It takes no memory.
 pub fn refusal_answer(refusal: &Refusal) -> Answer
     ensures { answer_value result ≡ refusal_answer refusal.now }
 {
@@ -112,7 +112,7 @@ fn receipt_body(receipt: Receipt) -> ShortText
     body
 }
 
-/// The answer where a command was accepted. It takes no memory.
+/// The answer if a command was accepted. It takes no memory.
 pub fn receipt_answer(receipt: Receipt) -> Answer
     ensures { answer_value result ≡ receipt_answer receipt.serial }
 {

@@ -20,7 +20,7 @@ fn status_line(status: u16) -> &'static str
     }
 }
 
-/// In a 405 alone: the methods that the route has.
+/// Only in a 405: the methods that the route has.
 fn allow_line(allow: Option<Methods>) -> &'static str
     ensures value { result.now ≡ allow_line allow }
     ensures short { length result.now ≤ 18 }

@@ -19,7 +19,7 @@ fn is_named(bytes: &[u8], header: &HeaderSpan, name: &[u8]) -> bool
     header.name.of(bytes).eq_ignore_ascii_case(name)
 }
 
-/// The length that a field's value is.
+/// Parses a field's value as a length.
 fn length_of(value: &[u8]) -> Result<usize, Fault>
     ensures value { result ≡ length_of value.now }
     ensures short { IfOk result (λ length. length ≤ MAX_BODY) }
@@ -34,7 +34,7 @@ fn length_of(value: &[u8]) -> Result<usize, Fault>
     }
 }
 
-/// The length of the body that the fields tell.
+/// Reads the length of the body from the fields.
 pub fn body_length(bytes: &[u8], headers: &[HeaderSpan]) -> Result<usize, Fault>
     requires { All (IsHeaderWithin (length bytes.now)) headers.now }
     ensures value { result ≡ body_length (map (header_bytes bytes.now) headers.now) }

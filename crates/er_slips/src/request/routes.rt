@@ -57,7 +57,7 @@ impl Model for Routes {
 }
 
 impl Routes {
-    /// The three routes. Fails for memory alone.
+    /// The three routes. Fails only if memory runs out.
     pub fn new(alloc: Global) -> Result<Routes, AllocError> {
         match router(alloc) {
             Ok(router) => Ok(Routes { router }),
@@ -65,7 +65,7 @@ impl Routes {
         }
     }
 
-    /// What the path looks like among the three.
+    /// Which of the three the path looks like.
     fn pattern_of(&self, path: &str) -> Option<Pattern>
         ensures { result ≡ pattern_of path.now }
     {
@@ -99,7 +99,7 @@ fn split(text: &[u8]) -> (&[u8], &[u8])
     (&text[..end], &text[end..])
 }
 
-/// The number that 1 to 3 digits are.
+/// Parses 1 to 3 digits as a number.
 fn number_of(part: &[u8]) -> Option<u16>
     ensures { result ≡ path_number part.now }
 {
