@@ -85,7 +85,7 @@ same_moves {l} {old} {mid} {new} same moves = record {
   keeps = rw same.now_is at moves.keeps;
 }
 
--- so many matches are stored, of a round or a stage that an event has with them
+-- `count` matches are stored, of a round or a stage that an event has with them
 pub record Adds (l : Layout) (event : List Match → EventValue) (count : ℕ) (matches : List Match) (serial : ℕ) (totals : List TallyRow)
     (old new : State) : Type 0 where
   pub none : count ≡ 0 → Same old new

@@ -1,4 +1,4 @@
--- The five tables behind those that stand.
+-- The five tables after those that stand.
 use Rattle.er_store.proofs.Prelude.{◌≡◌, ◌≢◌, ◌+◌, ℕ, Bool, true, false, List, [], ◌∷◌, ◌++◌, length, cond, ◌==◌, arith}
 use Rattle.er_store.proofs.Prelude.{Some, None, refl, sym, ap, subst, ◌∙◌, true≢false, AllByRecursion, Table, Database}
 use Rattle.er_store.proofs.Prelude.{State, Row, player, player2, ne_eqb, if◌then◌else◌, slice_get}
@@ -20,7 +20,7 @@ use Rattle.er_store.specs.Beside.{KeepsFirst, HasTable}
 use Rattle.er_store.specs.inside.Making.{Grows, ContinuesTransaction, MakesTable, IsEmptyAfter, IsFound}
 use Rattle.er_store.specs.Tables.{players_of}
 
--- ---- a table behind others is found
+-- ---- a table after others is found
 
 module _ {X : Type 0} (test : X → Bool) where
   none_past : (i : ℕ) (xs : List X) → position_from test i xs ≡ None → AllByRecursion (λ x. test x ≡ false) xs
@@ -110,7 +110,7 @@ players_anywhere version tree = by_version (version == 2)
     by_version true = refl
     by_version false = refl
 
--- where the version is not 2, it is the table of version 1 that was made
+-- if the version is not 2, it is the table of version 1 that was made
 pub first_players : (version : ℕ) → version ≢ 2 → {old new : State} → MakesTable player old new → MakesTable (players_of version) old new
 first_players version other {old} {new} =
     subst (λ b. MakesTable (λ tree. if b then player2 tree else player tree) old new) (sym (ne_eqb version 2 other))

@@ -22,7 +22,7 @@ module _ {version : ℕ} {old mid : State} (made : MakesFive version old mid) wh
   abbrev tree : ℕ
   tree = next_tree old.now.schema
 
-  -- `event` is found behind the tables that stood
+  -- `event` is found after the tables that stood
   pub event_found : IsFound mid.now.schema (length old.now.schema.tables) (event tree)
   unfolding everything
   event_found = found_behind made.event made.free refl
@@ -131,7 +131,7 @@ pub stored_beside : {version : ℕ} {e : EventValue} {old mid : Database} {trees
     → IsStoredBeside version e old trees
 stored_beside {version} {e} {trees = trees} = subst (λ d. IsStoredBeside version e d trees)
 
--- ---- where no foreign key waited for one of the five
+-- ---- if no foreign key waited for one of the five
 
 pub represents_now : {version : ℕ} {e : EventValue} {old : Database} {s : State} → HoldsBeside version e old s
     → NoneAwaitsFive version old.schema → RepresentsNow version s e 0

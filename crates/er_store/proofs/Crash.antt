@@ -9,7 +9,7 @@ use Rattle.sqlite.specs.State as sqlite
 
 -- ---- what a crash leaves of a change
 
--- while the store is open, a crash leaves the last commit alone
+-- while the store is open, a crash leaves only the last commit
 abbrev pub Settles : State → Type 0
 Settles s = (db : Trees) → IsTrue s.is_open → s.may_leave db → db ≡ s.committed.trees
 
@@ -41,7 +41,7 @@ module _ {v : ℕ} {last end : State} {e : EventValue} {s : ℕ} (ready : IsRead
 pub survives_both : {a b c : State} → Survives a b (λ _. ⊥) → Survives b c (λ _. ⊥) → Survives a c (λ _. ⊥)
 survives_both {a} {b} {c} = survives_then a b c (λ _. ⊥) (λ _. ⊥) (λ _. ⊥) (λ _ db none. none) (λ _ db none. none)
 
--- where nothing was committed, a crash leaves the event before the change
+-- if nothing was committed, a crash leaves the event before the change
 pub leaves_old : (v : ℕ) (old end : State) (e : EventValue) (s : ℕ) → Settles old → RepresentsNow v old e s
     → Survives (record old { in_transaction = true }) end (λ _. ⊥) → HasCleanDisk end → (trees : Trees) → end.may_leave trees
     → IsStoredIn v e s trees

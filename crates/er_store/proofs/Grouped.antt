@@ -136,7 +136,7 @@ module _ {X : Type 0} (columns : X → Row) (row : ℕ → ℕ × Match → X)
         by_test true is more = (below_tested j (j + 1) (columns (row k (j, m))) ms (first k (j, m)) (second (j, m) is) (omega arith), more)
         by_test false is more = more
 
-  -- where those of each round rise, all do
+  -- if those of each round rise, all do
   module _ {L : Type 0} (numbered : L → List (ℕ × Match)) where
     abbrev rows : ℕ → L → List X
     rows k l = map (row k) (numbered l)

@@ -1,4 +1,4 @@
--- Tables that stand still do where others come behind them.
+-- Tables that stand go on standing if others come after them.
 use Rattle.er_store.proofs.Prelude.{◌≡◌, ◌⊎◌, ℕ, zero, suc, ◌+◌, ◌==◌, Bool, true, false}
 use Rattle.er_store.proofs.Prelude.{List, [], ◌∷◌, ◌++◌, cond, Some, None, Option}
 use Rattle.er_store.proofs.Prelude.{find, slice_get, refl, sym, ap, subst, ◌∙◌, inl, inr, true≢false, AllByRecursion, Table, Schema}
@@ -59,7 +59,7 @@ key_listed tables ref key is = by_found (find (λ t. same_name t.name ref.parent
         let h = has_found (λ (t : Table). same_name t.name ref.parent) tables t found in
         (t, h.0, h.1, key_of t (key_places t ref.parent_columns) key is)
 
--- where no table behind the others is named by a key of theirs or has a forbidden tree, keys lead where they may
+-- if no table after the others is named by a key of theirs or has a forbidden tree, keys lead where they may
 module _ (Free : ℕ → Type 0) (front more : List Table) where
   abbrev pub MayLead : List Table → Reference → Type 0
   MayLead tables ref = (key : ParentKey) → parent_key tables ref ≡ Some key → Free key.0

@@ -27,7 +27,7 @@ use Rattle.er_store.proofs.SlipLemmas.{cond_of, of_max, of_min}
 use Rattle.er_store.specs.{Rows.text_or_null, Slip.FindsSlipOrFails}
 use Rattle.er_event.specs.Slip.{name_in as name_found}
 
--- ---- the rows that are joined, where the test looks at the first alone
+-- ---- the rows that are joined, if the test looks only at the first
 
 module _ (test : Row → Bool) (lows : Row → List Row) (highs : Row → List Row) (params : Row) where
   -- each pair of rows beside this one

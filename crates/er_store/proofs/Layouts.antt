@@ -74,7 +74,7 @@ module _ (l : Layout) {schema : Schema} (has : HasTablesAt l schema) where
   no_parent p =
       all_weaker _ _ (λ t leads. all_weaker _ _ (λ ref other key is. other key is p) t.references leads) schema.tables has.apart
 
--- where the tables are, the event's can be read
+-- if the tables are, the event's can be read
 pub can_read : {version : ℕ} (schema : Schema) → HasTables version schema → CanRead schema
 can_read schema (l, is, has) =
     let there = (has.has EventTable).1 in
@@ -118,7 +118,7 @@ is_second l has version is other = by_version has.known
     by_version (inl one) = absurd (other (sym is ∙ one))
     by_version (inr two) = two
 
--- where the event's row has a version, the players are read by its statement
+-- if the event's row has a version, the players are read by its statement
 pub said_is : (version : ℕ) → IsVersion version → (e : EventValue) (s : ℕ) → said_version (event_row version e s ∷ []) ≡ version
 said_is version (inl one) e s = rw one refl
 said_is version (inr two) e s = rw two refl

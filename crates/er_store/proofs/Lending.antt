@@ -15,7 +15,7 @@ lends_self g tx = record { same_reference = refl; stays = stays_self (tx_state g
 pub lends_then : {S : Type 0} {g : Ghosts S} {a b c : Transaction S} → Lends g a b → Lends g b c → Lends g a c
 lends_then p q = record { same_reference = q.same_reference ∙ p.same_reference; stays = stays_then p.stays q.stays }
 
--- a refusal is no answer
+-- a refusal isn't an answer
 pub no_ok : {A E : Type 0} (P : Type 0) (r : Result A E) (e : E) → IsErrAnd r (λ x. x ≡ e) → OnOk r P
 no_ok P (Ok a) e is = absurd is
 no_ok P (Err x) e is = tt

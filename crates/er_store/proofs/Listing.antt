@@ -70,14 +70,14 @@ IsColumn table s p =
     (e : Expr) × (name : List ℕ) × (text : List ℕ) × (out-Shown s ≡ Shown-F.One e None text) × (out-Expr e ≡ Expr-F.Column None name)
     × (column_named table name ≡ Some p.0) × (slice_get table.columns p.0 ≡ Some p.1)
 
--- and what is sorted by, which is no other name of what is shown
+-- and what is sorted by, which isn't another name of what is shown
 abbrev IsSort : Table → List Output → Sort → ℕ × Column → Type 0
 IsSort table shown s p =
     (e : Expr) × (name : List ℕ) × ((out-Sort s).key ≡ e) × ((out-Sort s).descending ≡ false) × ((out-Sort s).nulls_first ≡ None)
     × (out-Expr e ≡ Expr-F.Column None name) × (column_named table name ≡ Some p.0) × (slice_get table.columns p.0 ≡ Some p.1)
     × (position_from (λ (o : Output). o.is_alias && same_name o.name name) 0 shown ≡ None)
 
--- steps of the resolver that are left after so many
+-- the steps of the resolver that are left after one for each of these
 abbrev after_each : {X : Type 0} → ℕ → List X → ℕ
 after_each n [] = n
 after_each n (x ∷ xs) = after_each (n - 1) xs
@@ -300,7 +300,7 @@ module _ {schema : Schema} {at : ℕ} {table : Table} (there : IsThere schema at
         typed = accepts;
       }
 
-  -- where all that is shown are columns
+  -- if all that is shown are columns
   lists_columns : (sql : List ℕ) (p : Parsed) (s : Select) → first sql ≡ Ok p → p.statement ≡ written.Select s → p.formats ≡ []
       → length sql ≤ p.tail → p.names ≡ [] → (shows : List Shown) (order : List Sort) (h : IsListing table.name s shows order)
       → (ps ks : List (ℕ × Column)) → AreColumns schema at table shows ps

@@ -60,7 +60,7 @@ pub told : {A E : Type 0} (r : Result A E) (e : E) (P : E → Type 0) → IsErrA
 told (Ok a) e P is p = tt
 told (Err x) e P is p = subst P (sym is) p
 
--- tables that hold an event represent it, where the rowids are numbers and rise
+-- tables that hold an event represent it, if the rowids are numbers and rise
 pub represents_where : {v : ℕ} {db : Database} {e : EventValue} {s : ℕ} → HoldsEvent v db e s → AreKeyed v db → RepresentsIn v db e s
 represents_where it keyed = record {
   layout = it.layout;
@@ -85,7 +85,7 @@ input_is_no : (fault : CompileError) (e : Error) → is_input e ≡ false → Sq
 unfolding is_input
 input_is_no fault e other same = true≢false (ap is_input same ∙ other)
 
--- a text that is no statement
+-- a text that isn't a statement
 pub not_understood : (old new : State) (sql : List ℕ) (fault : CompileError) → IsNotRun old new sql [] (SqlInputError fault)
     → (IsOk (understood old.now.schema sql) → ⊥) × IsUnchanged old new
 unfolding IsNotRun is_input
@@ -108,7 +108,7 @@ module _ {T : Type 0} (columns : T → Row) where
   at_place (t ∷ ts) zero row below = (t, refl)
   at_place (t ∷ ts) (suc at) row below = at_place ts at row (omega arith)
 
-  -- where one row is refused, the rows are not those of lawful ones
+  -- if one row is refused, the rows are not those of lawful ones
   pub not_typed : (rows : List Row) (at : ℕ) (row : Row) (e : Error) → at < length rows → row ≡ get_or rows at row
       → (e ≢ out_of_memory → (r : T) → row ≢ columns r) → e ≢ out_of_memory → (typed : List T) → rows ≢ map columns typed
   not_typed rows at row e below is refused unless typed are =

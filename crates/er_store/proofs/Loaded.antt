@@ -11,7 +11,7 @@ use Rattle.er_event.specs.Version.{Keeps}
 use Rattle.er_store.specs.Loading.{HoldsEventAt, ListsParts, ListsTallies}
 use Rattle.er_store.proofs.{Keyed.keyed_permutes, Layouts.has_again}
 
--- ---- what a crash leaves represents the event again where it is opened
+-- ---- what a crash leaves represents the event again when it is opened
 
 same_table : (row : Row) (a b : Table) → IsTableRow row a → IsTableRow row b → a ≡ b
 same_table row a b p q = grind (arith, common_steps)

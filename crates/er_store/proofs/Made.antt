@@ -46,7 +46,7 @@ pub is_free : (schema : Schema) (name : List ℕ) → is_used schema name ≡ fa
 is_free schema name free =
     let parts = free_parts _ _ _ free in record { table = none _ parts.0; index = none _ parts.1; view = none _ parts.2 }
 
--- ---- what the text means where its name is free
+-- ---- what the text means if its name is free
 
 -- a text that defines a table, with no IF NOT EXISTS
 record Defines (sql : List ℕ) (p : Parsed) (def : CreateTable) (table : Table) : Type 0 where
@@ -143,14 +143,14 @@ all_append P (x ∷ xs) ys one two = (one.0, all_append P xs ys one.1 two)
 abbrev pub IsAnywhere : (ℕ → Table) → Type 0
 IsAnywhere table = (tree : ℕ) → record (table 0) { tree = tree } ≡ table tree
 
--- where a table is made, it is listed
+-- if a table is made, it is listed
 pub grown : {table : ℕ → Table} {a b : Database} → Grows table a b → Has b.schema.tables (table (next_tree a.schema))
 grown {table} {a} g =
     let tree = next_tree a.schema in
     subst (λ ts. Has ts (table tree)) (sym (g.keeps.first.tables ∙ ap (λ ts. a.schema.tables ++ ts) g.behind))
     (has_right a.schema.tables (table tree ∷ g.rest) (table tree) (inl refl))
 
--- and stays where more is made
+-- and stays if more is made
 unfoldable pub grows_then : {table : ℕ → Table} {a b c : Database} → IsAnywhere table → Grows table a b → KeepsFirst b c → Grows table a c
 unfolding keeps_then stands_then
 grows_then {table} {a} {b} {c} anywhere g q =
@@ -225,7 +225,7 @@ sequence_is c =
     let same : c.table ≡ sequence_defined.0 = cc in
     (ap name_in same ∙ sequence_defined.2, ap (λ (t : Table). t.references) same ∙ sequence_defined.3)
 
--- SQLite's own table of counts is made too, where some table needs it and it is not there
+-- SQLite's own table of counts is made too, if some table needs it and it is not there
 sequenced : (b : Bool) {table : ℕ → Table} {old mid new : Database} → IsAnywhere table → Adds table old mid
     → MatchBool b (Makes sequence_text mid (Ok new)) (Gives mid (Ok new)) → Adds table old new
 unfolding grows_then keeps_then stands_then one_more name_in
@@ -269,7 +269,7 @@ module _ {sql : List ℕ} {p : Parsed} {def : CreateTable} {table : ℕ → Tabl
         others = adds.others;
       }
 
-  -- where such a text ran, its name was free, and it has made its table
+  -- if such a text ran, its name was free, and it has made its table
   made_by : (b : Bool) → is_used old.now.schema def.name ≡ b → MakesTable table old new
   made_by true used =
       absurd (never_ran sql [] old new (compiled_refused old.now.schema sql p def d.reads d.is d.always used) ran)

@@ -290,7 +290,7 @@ meetings-listed s t old new {rows} it h = answer-lists s t old.now.trees rows (a
 
 -- ---- the rows of an event
 
--- the least of the two numbers is 0 where there is a bye, and else both are numbers
+-- the least of the two numbers is 0 if there is a bye, and else both are numbers
 pair-passes : (k j : ℕ) (m : Match) → (is_bye m ≡ false → (1 ≤ m.a) × (1 ≤ m.b))
     → is_no_bye (pairing_columns (pairing_row k (j, m))) ≡ is_pair m
 unfolding binary

@@ -22,9 +22,9 @@ use Rattle.er_store.proofs.{Behind.{found_behind, read_behind, goes_then}, Made.
 use Rattle.er_store.proofs.Growing.{key_listed, all_lead, still_there, still_has}
 use Rattle.er_store.proofs.{Effects.event_replaced, Together.{kept, rows_set, shows_more}}
 
--- ---- `player2` behind what stands
+-- ---- `player2` after what stands
 
--- which of the rows behind are of version 2 only
+-- a tree of none of the event's tables, and not of `player2`, is of none of them after the move
 other_after : (l : Layout) (players tree : ℕ) → IsOther l tree → tree ≢ players → IsOther (moved_layout l players) tree
 other_after l players tree other apart = elim [
   | EventTable ↦ other EventTable
@@ -58,7 +58,7 @@ module _ {old new : State} (made : MakesTable player2 old new) where
     below p = subst (λ n. n < next) (tree_is l p) (of_ours l has (λ (t : Table). t.tree < next)
         (all_from (λ (t : Table). t.tree < next) front (λ t h. table_below old.now.schema t h)) p)
 
-    -- what comes behind is named by no foreign key, or is none of the five
+    -- what comes after is named by no foreign key, or isn't one of the five
     named_by_none : (Free : ℕ → Type 0) → ((tree : ℕ) → next < tree → Free tree) → AllByRecursion (λ (t : Table). AllByRecursion
         (λ ref. AllByRecursion (λ (m : Table). (same_name m.name ref.parent ≡ false) ⊎ Free m.tree) behind) t.references) front
     named_by_none Free later = all_weaker _ _ (λ t all. all_weaker _ _ (λ ref no. (

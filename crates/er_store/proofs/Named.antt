@@ -1,4 +1,4 @@
--- What a statement means over any schema, where its table is found by its name.
+-- What a statement means over any schema, if its table is found by its name.
 use Rattle.er_store.proofs.Prelude.{◌≡◌, ℕ, true, false, List, [], ◌∷◌, map, Some, None, Ok, refl, ◌==◌, is_ok, ◌+◌}
 use Rattle.er_store.proofs.Prelude.{Schema, Table, Insert, understood, everything, CanRead, first, Compiled, event, insert_event}
 use Rattle.er_store.proofs.Prelude.{player, insert_player, Values, Err, sym, ap, true≢false, listing_schema, if◌then◌else◌}
@@ -99,7 +99,7 @@ tally_means at tree there = insert_means there insert_tally _ _ _ _ refl refl re
 
 -- ---- a SELECT over one table
 
--- this table alone, by its name
+-- only this table, by its name
 record IsOf (name : List ℕ) (source : Source) : Type 0 where
   origin : (out-Source source).origin ≡ origin.Table name
   alias : (out-Source source).alias ≡ None

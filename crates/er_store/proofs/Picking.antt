@@ -10,7 +10,7 @@ use Rattle.sqlite_keyed.proofs.ListLemmas.{slice_get-filter}
 
 -- ---- among rows that a test picks one of, that one gives way to another
 
--- what is shown of each before and after, which differs where the test picks it
+-- what is shown of each before and after, which differs if the test picks it
 module _ {X : Type 0} (columns after : X → Row) (test : Row → Bool) (xs : List X) (it : X)
     (others : (x : X) → test (columns x) ≡ false → after x ≡ columns x) (alone : filter (λ x. test (columns x)) xs ≡ it ∷ []) where
   pub picked-alone : filter test (map columns xs) ≡ columns it ∷ []
@@ -111,12 +111,12 @@ one_numbered k a (suc i) (p ∷ ps) at below numbered =
     let more = one_numbered k (a + 1) i ps (omega arith) (omega arith) both.1 in
     record { it = more.it; is = more.is; alone = rw (ne_eqb p.no k (λ e. absurd (omega (arith, both.0)))) more.alone }
 
--- a row for each player, before and after, which changes for one number alone
+-- a row for each player, before and after, which changes only for one number
 pub record AreRowsBy (before after : Player → Row) (k : ℕ) : Type 0 where
   pub numbered : (p : Player) → column (before p) 0 ≡ number_value p.no
   pub others : (p : Player) → has_number k p ≡ false → after p ≡ before p
 
--- the number picks one player's row alone, and the rows of the others with the new one are those after
+-- the number picks only one player's row, and the rows of the others with the new one are those after
 pub record PicksRow (k : ℕ) (before after : Player → Row) (ps : List Player) (old new : List Row) : Type 0 where
   pub it : Player
   pub is : it.no ≡ k

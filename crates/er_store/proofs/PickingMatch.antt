@@ -106,13 +106,13 @@ module _ {L : Type 0} (matches : L → List Match) (at : ℕ × Match → Bool) 
     set_group j (suc i) (l ∷ ls) was is here found new =
         grind (arith, common_steps, map-append, other_same, set_group (j + 1) i ls was is (omega arith) found new)
 
--- The match is picked alone. The rows of the others with that of the scored match are those after the change.
+-- Only the match is picked. The rows of the others with that of the scored match are those after the change.
 pub record Picks (row : ℕ × Match → Row) (k t : ℕ) (s : Games) (old new : List Row) : Type 0 where
   pub it : ℕ × Match
   pub alone : filter (picks_table k t) old ≡ row it ∷ []
   pub replaced : IsPermutation (filter (is_elsewhere k t) old ++ row (it.0, match_with_score s it.1) ∷ []) new
 
--- ---- their rows, where the WHERE makes this test
+-- ---- their rows, if the WHERE makes this test
 
 module _ {L : Type 0} (matches : L → List Match) (row : ℕ → ℕ × Match → Row) (k t : ℕ) (at : ℕ × Match → Bool)
     (told : (j : ℕ) (n : ℕ × Match) → picks_table k t (row j n) ≡ ((j == k) && (at n && true))) where

@@ -91,7 +91,7 @@ stages_of : (stages : List (List Match)) (first : List Match) → slice_get stag
 stages_of [] first at follow is = absurd (none-some first at)
 stages_of (stage ∷ stages) first at follow is = stages_from stages stage follow (subst IsStage (sym (same_Some stage first at)) is)
 
--- how many matches a stage has at most that so many others follow
+-- how many matches a stage has at most if `n` others follow it
 abbrev most : ℕ → ℕ
 most zero = 1
 most (suc n) = most n + most n

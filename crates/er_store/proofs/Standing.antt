@@ -1,4 +1,4 @@
--- Tables that are made one after the other are there, and no foreign key leads to one of them, where none waited for it.
+-- Tables that are made one after the other are there, and no foreign key leads to one of them, if none waited for it.
 use Rattle.er_store.proofs.Prelude.{◌≡◌, ◌≢◌, ◌<◌, ◌⊎◌, ℕ, true, false, List, [], ◌∷◌, ◌++◌, length, Some, refl, sym, ap, subst, ◌∙◌}
 use Rattle.er_store.proofs.Prelude.{inl, inr, arith, ◌==◌, all_weaker, AllByRecursion, Table, Schema, State, IsThere, Layout}
 use Rattle.er_store.proofs.Prelude.{IsOther, Place, EventTable, PlayerTable, PairingTable, BracketTable, TallyTable}
@@ -74,7 +74,7 @@ module _ {table : ℕ → Table} {old new : State} (made : MakesTable table old 
       ]))
 
   module _ (tables : List Table) (stand : Stand tables old.now.schema) where
-    -- a tree behind the one that was made is of none of them
+    -- a tree after the one that was made is of none of them
     off_later : (tree : ℕ) → next < tree → IsOff (table next ∷ tables) tree
     off_later tree later = (
       λ same. let own = own_tree in omega (arith, same, own, later),

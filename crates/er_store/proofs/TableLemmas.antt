@@ -44,7 +44,7 @@ module _ {R : Type 0} (form : Form R) (table : Shape R) (it : IsOurs form table)
       → IsReadRefused old new e
   refused l serves e has = read_refused (l.tree table.place) (it.terms l.version) it.keys old new e (chosen l serves has)
 
-  -- the rows are those of the event, where the tables represent one
+  -- the rows are those of the event, if the tables represent one
   pub are_rows : (l : Layout) → Serves l → {rows : List Row} → Shown sql [] old new rows → (e : EventValue) (s : ℕ)
       → RepresentsAt l old.now e s → IsSoundButForSeeds e → rows ≡ map form.columns (table.rows l.version e s)
   are_rows l serves {rows} shows e s represents sound = it.exact l old.now e s rows represents sound
@@ -158,7 +158,7 @@ tally_is_ours = record {
 
 module _ {A B : Type 0} {F : Database → A → Type 0} {M : Database → Refusal → Type 0} {G : Database → B → Type 0}
     {N : Database → Refusal → Type 0} where
-  -- where the first has found something, both are a look, and what both say is of the database before
+  -- if the first has found something, both are a look, and what both say is of the database before
   pub looks_then : {S : Type 0} {g : Ghosts S} {old mid new : Held S} {a : A} {r : Result B Refusal}
       → LooksUp g F M old (Ok a) mid → LooksUp g G N mid r new
       → LooksUp g (λ db b. F db a × G db b) (λ db why. F db a × N db why) old r new

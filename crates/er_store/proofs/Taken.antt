@@ -1,4 +1,4 @@
--- No table can be made where its name is taken.
+-- No table can be made if its name is taken.
 use Rattle.er_store.proofs.Prelude.{◌≡◌, ℕ, Bool, true, false, List, [], Option, Some, None, Ok, Err, Schema, State, Ran, Row, refl, sym}
 use Rattle.er_store.proofs.Prelude.{◌∙◌, true≢false, understood, everything, if◌then◌else◌}
 use Rattle.std.specs.{Prelude.{◌||◌, is_some, codes}, Option.option_or, Fmt.digits}
@@ -14,7 +14,7 @@ use Rattle.sqlite_catalog.specs.Change.{is_used}
 use Rattle.sqlite.specs.{Listing.misses_table, State.ExecutesIn}
 use Rattle.er_store.specs.{Tables.create_player2, Migrated.IsTaken}
 
--- the statement is refused, and not for want of a table
+-- the statement is refused, and not because a table is missing
 pub record IsRefused {X : Type 0} (c : Checked X) : Type 0 where
   pub why : CompileError
   pub is : c ≡ Err why

@@ -58,7 +58,7 @@ pub rows-more : (list : List Tally) (rows : List TallyRow) (k : ℕ) (rd : Tally
     → map (λ (t : Tally). tally_row t.no t.totals) (list ++ tally ∷ []) ≡ take (k + 1) rows
 rows-more list rows k rd tally below is before = grind (arith, common_steps)
 
--- want of memory is a fault
+-- running out of memory is a fault
 pub memory-fault : {A : Type 0} (r : Result A Refusal) (P : A → Type 0) → MatchResult r P (λ why. why ≡ Memory) → MatchResult r P IsFault
 memory-fault (Ok a) P h = h
 memory-fault (Err why) P h = inl h
@@ -78,7 +78,7 @@ moves_self moves = grind (arith, common_steps, same_rows)
 by_numbers : (f : ℕ → Totals) (ps : List Player) → tally_rows_by f ps ≡ map (λ n. tally_row n (f n)) (numbers ps)
 by_numbers f ps = sym (map-map (λ n. tally_row n (f n)) (λ (p : Player). p.no) ps)
 
--- the numbers alone tell the rows
+-- the numbers are enough to tell the rows
 pub same_players : (f : ℕ → Totals) (ps qs : List Player) → numbers ps ≡ numbers qs → tally_rows_by f ps ≡ tally_rows_by f qs
 same_players f ps qs same = by_numbers f ps ∙ (ap (map (λ n. tally_row n (f n))) same ∙ sym (by_numbers f qs))
 

@@ -100,7 +100,7 @@ makes_then p q = record { moves = moves_then p.moves q.moves; represents = q.rep
 
 -- ---- the changes
 
--- one table shows other rows, where each that is not this one shows what it did
+-- one table shows other rows, if each that is not this one shows what it did
 abbrev Follows : Layout → ℕ → Database → (Place → List Row) → (Place → List Row) → Type 0
 Follows l tree db before after =
     (table : Place) → (l.tree table ≢ tree → IsPermutation (rows_in l db table) (before table))
@@ -141,7 +141,7 @@ keeps_as rounds players it = record { rounds = λ is. rw rounds (it.rounds is); 
 
 module _ {l : Layout} {old new : State} {e : EventValue} {s : ℕ} {kept : List TallyRow}
     (represents : RepresentsWith l old.now e s kept) where
-  -- the players' rows alone are others
+  -- only the players' rows change
   pub players_set : (players : List Player) → KeepsPlayers l.version players → Goes (l.tree PlayerTable) old new
       → IsPermutation (rows_in l new.now PlayerTable) (map player_columns (map player_row players))
       → BringsToWith l old new (record e { players = players }) s kept
@@ -155,7 +155,7 @@ module _ {l : Layout} {old new : State} {e : EventValue} {s : ℕ} {kept : List 
       ]) (λ keyed. keyed (apart l represents.has.tables PairingTable PlayerTable refl))
       (λ keyed. keyed (apart l represents.has.tables BracketTable PlayerTable refl))
 
-  -- the pairings' rows alone are others
+  -- only the pairings' rows change
   pub pairings_set : (stored : List Round) → Goes (l.tree PairingTable) old new
       → IsPermutation (rows_in l new.now PairingTable) (map pairing_columns (pairing_rows_from 1 stored))
       → IsKeyed (new.now.trees (l.tree PairingTable))
@@ -169,7 +169,7 @@ module _ {l : Layout} {old new : State} {e : EventValue} {s : ℕ} {kept : List 
         | TallyTable ↦ λ same. same (apart l represents.has.tables TallyTable PairingTable refl)
       ]) (λ _. keyed) (λ keyed. keyed (apart l represents.has.tables BracketTable PairingTable refl))
 
-  -- the bracket's rows alone are others
+  -- only the bracket's rows change
   pub bracket_set : (stages : List (List Match)) → Goes (l.tree BracketTable) old new
       → IsPermutation (rows_in l new.now BracketTable) (map bracket_columns (bracket_rows_from 1 stages))
       → IsKeyed (new.now.trees (l.tree BracketTable))
@@ -183,7 +183,7 @@ module _ {l : Layout} {old new : State} {e : EventValue} {s : ℕ} {kept : List 
         | TallyTable ↦ λ same. same (apart l represents.has.tables TallyTable BracketTable refl)
       ]) (λ keyed. keyed (apart l represents.has.tables PairingTable BracketTable refl)) (λ _. keyed)
 
-  -- the rows of totals alone are others
+  -- only the rows of totals change
   pub tallies_set : (after : List TallyRow) → Goes (l.tree TallyTable) old new
       → IsPermutation (rows_in l new.now TallyTable) (map tally_columns after) → BringsToWith l old new e s after
   tallies_set after goes set = table_set l (l.tree TallyTable) (λ t other. other TallyTable) represents goes represents.low represents.keeps
@@ -196,7 +196,7 @@ module _ {l : Layout} {old new : State} {e : EventValue} {s : ℕ} {kept : List 
       ]) (λ keyed. keyed (apart l represents.has.tables PairingTable TallyTable refl))
       (λ keyed. keyed (apart l represents.has.tables BracketTable TallyTable refl))
 
-  -- the event's row alone is another
+  -- only the event's row changes
   pub row_set : (phase : Phase) (t : ℕ) → t ≤ 999999 → Goes (l.tree EventTable) old new
       → new.now.trees (l.tree EventTable) ≡ stored_event l.version (with_phase e phase) t ∷ []
       → BringsToWith l old new (with_phase e phase) t kept
@@ -245,7 +245,7 @@ second_player_added l is represents name = player_added represents name _ (rw is
 
 -- ---- creation
 
--- the event's row is put in where the five tables have none
+-- the event's row is put into the five tables, which have no rows
 new_rows : {version : ℕ} {tree : Place → ℕ} {mid new : State} {e : EventValue} → IsNew e
     → LieEmpty (record { version = version; tree = tree }) mid.now → Puts (tree EventTable) (stored_event version e 0) mid new
     → HasRows (record { version = version; tree = tree }) new.now (rows_with version e 0 (tally_rows e))

@@ -174,7 +174,7 @@ replaces table id row {sql} {params} {old} {new} {at} {q} means apart found show
 
 -- ---- the row that an update of the event's table shows
 
--- where one is staged, it alone is shown
+-- if one is staged, only it is shown
 pub one_shown : (q : Query) (params : Row) (e : Env) {staged : List Env} {kept ordered : List Output} {rows : List Row} → staged ≡ e ∷ []
     → kept ≡ map (output q) staged → IsPermutation kept ordered → rows ≡ page q params (map (λ (o : Output). o.1) ordered)
     → rows ≡ page q params ((output q e).1 ∷ [])

@@ -47,10 +47,10 @@ pub record IsCreated {S : Type 0} (g : Ghosts S) (v : ℕ) (e : EventValue) (old
       × ((other : ℕ) → HasTables other old.now.schema → ⊥)
   -- whatever stood in the file stands as it was, and the five tables are there beside it, after a crash too
   pub beside : HasCleanDisk (store_state g made) → HoldsBeside v e old.now (store_state g made)
-  -- in an empty file they stand alone
+  -- in an empty file they are the only ones
   pub alone : HasCleanDisk (store_state g made) → old.now.schema ≡ no_schema
       → (store_state g made).now.schema ≡ alone_schema v
-  -- where no foreign key waited for one of them they represent the event, and so does each thing that a crash may leave
+  -- if no foreign key waited for one of them they represent the event, and so does each thing that a crash may leave
   pub created : HasCleanDisk (store_state g made) → NoneAwaitsFive v old.now.schema → RepresentsNow v (store_state g made) e 0
   pub acknowledged : NoneAwaitsFive v old.now.schema → AfterCrash (store_state g made) (IsStoredIn v e 0)
 
@@ -64,7 +64,7 @@ pub record IsNotCreated {S : Type 0} (g : Ghosts S) (v : ℕ) (e : EventValue) (
       → CanRead old.now.schema
       × (old.now.schema ≢ no_schema)
       × IsUnchanged old (held_state g left.0)
-  -- where `event` can be read, a crash leaves what it could before
+  -- if `event` can be read, a crash leaves what it could before
   pub spares : CanRead old.now.schema → AfterCrash (held_state g left.0) old.may_leave
   -- else it may leave the new event whole too
   pub crash : NoneAwaitsFive v old.now.schema
@@ -92,7 +92,7 @@ pub record IsAdopted {S : Type 0} (g : Ghosts S) (old : State) (it : Store S g �
       × ReadsTallies old.now (tally_rows it.1)
   pub shows : HasCleanDisk (store_state g it.0) → HasTables (store_version it.0) old.now.schema
       → HoldsEvent (store_version it.0) old.now it.1 it.2
-  -- where they are ours, they represent it, and a change can be written to them
+  -- if they are ours, they represent it, and a change can be written to them
   pub represents : HasCleanDisk (store_state g it.0) → HasTables (store_version it.0) old.now.schema
       → AreKeyed (store_version it.0) old.now → RepresentsNow (store_version it.0) (store_state g it.0) it.1 it.2
   -- of tables that represent a sound event just that is found, with their version, and a crash leaves it in that version
@@ -107,9 +107,9 @@ pub record IsAdopted {S : Type 0} (g : Ghosts S) (old : State) (it : Store S g �
 pub record IsNotAdopted {S : Type 0} (g : Ghosts S) (old : State) (left : Held S × Refusal) : Type 0 where
   pub mode : left.0.in_transaction ≡ false
   pub why : (left.1 ≡ NoEvent) ⊎ IsLoadFault left.1
-  -- where the event's rows can be read, there is an event
+  -- if the event's rows can be read, there is an event
   pub no_event : left.1 ≡ NoEvent → HasCleanDisk (held_state g left.0) → ReadsEvent old.now.schema → ⊥
-  -- a damaged table is the first at fault, and is named only where they can
+  -- a damaged table is the first at fault, and is named only if those rows can be read
   pub first : HasCleanDisk (held_state g left.0) → IfDamaged (IsAtFault old.now) left.1
   pub readable : HasCleanDisk (held_state g left.0) → IfDamaged (λ _. ReadsEvent old.now.schema) left.1
   -- of tables that represent a sound event, memory or the store fails

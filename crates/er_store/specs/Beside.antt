@@ -1,4 +1,4 @@
--- What creation leaves beside tables of others: theirs as they were, and behind them the five.
+-- What creation leaves beside tables of others: theirs as they were, and after them the five.
 use Rattle.std.specs.Prelude.{◌≡◌, ℕ, false, List, [], ◌∷◌, ◌++◌, IsTrue, codes}
 use Rattle.std.specs.List.{AllByRecursion}
 use Rattle.sqlite_catalog.specs.Change.{KeepsRows}
@@ -17,7 +17,7 @@ use Rattle.er_store.specs.Tables.{event, players_of, pairing, bracket, tally}
 use Rattle.er_store.specs.Rows.{stored_event}
 use Rattle.er_store.specs.Representing.{CanRead, RepresentsIn}
 
--- What stood in the file stands first in it, and what was made comes behind it.
+-- What stood in the file stands first in it, and what was made comes after it.
 pub record StandsFirst (old new : Schema) : Type 0 where
   pub more : List Table
   pub tables : new.tables ≡ old.tables ++ more
@@ -43,7 +43,7 @@ IsMade table rows db = (tree : ℕ) × HasTable db (table tree) rows
 abbrev pub names_made : ℕ → List (List ℕ)
 names_made version = codes "event" ∷ (players_of version 0).name ∷ codes "pairing" ∷ codes "bracket" ∷ codes "tally" ∷ []
 
--- The names that a creation takes: those of its five tables, and that of SQLite's own table of counts, which comes too where a table of
+-- The names that a creation takes: those of its five tables, and that of SQLite's own table of counts, which comes too if a table of
 -- others asks for it.
 abbrev pub names_taken : ℕ → List (List ℕ)
 names_taken version = names_made version ++ codes "sqlite_sequence" ∷ []

@@ -59,7 +59,7 @@ pub record OnlyReads {S A : Type 0} (g : Ghosts S) (Stops : Refusal → Bool →
 abbrev pub OrFails : {A : Type 0} → (A → Type 0) → Result A Refusal → Type 0
 OrFails Is result = MatchResult result Is IsFault
 
--- What a store that runs answers where its tables, seen in this way, represent a sound event.
+-- What a store that runs answers if its tables, seen in this way, represent a sound event.
 abbrev pub Finds : {S A : Type 0} (g : Ghosts S) → (Database → EventValue → ℕ → Type 0) → (EventValue → ℕ → Result A Refusal → Type 0)
     → Store S g → Result A Refusal → Store S g → Type 0
 Finds g See Answers old result new =

@@ -36,7 +36,7 @@ pub record Answered (db : Database) (sql : List ℕ) (rows : List Row) : Type 0 
   pub from : IsSourceOf (reads_listing db.schema sql) db source
   pub reads : Reads compiled.command source (timed [] compiled.formats now) rows
 
--- the statement cannot be run: there is no such table or column, or what stands in its place wants the time
+-- the statement cannot be run: there is no such table or column, or what stands in its place asks for the time
 abbrev pub IsUnread : Database → List ℕ → Type 0
 IsUnread db sql =
     ((fault : CompileError) × (understood db.schema sql ≡ Err fault))
@@ -62,7 +62,7 @@ HasWrongKind {R} form db sql =
 abbrev pub IsMisreadAs : {R : Type 0} → Form R → List ℕ → Database → Type 0
 IsMisreadAs form sql db = (IsUnread db sql ⊎ IsRefused db sql) ⊎ HasWrongKind form db sql
 
--- the statement may answer these rows, which have so many columns
+-- the statement may answer rows whose first columns are those of these
 abbrev pub MayRead : {R : Type 0} → Form R → List ℕ → Database → List R → Type 0
 MayRead form sql db typed =
     (rows : List Row) × Answered db sql rows × (map form.columns typed ≡ map (first_columns form.width) rows)
@@ -81,7 +81,7 @@ said_version events = if says_second events then 2 else 1
 abbrev pub said_players : List EventRow → List ℕ
 said_players events = read_players_of (said_version events)
 
--- where the event's own rows were read, these rows decide
+-- if the event's own rows were read, these rows decide
 abbrev pub IsMisread : List EventRow → Database → Place → Type 0
 IsMisread events db EventTable = IsMisreadAs event_form read_event db
 IsMisread events db PlayerTable = IsMisreadAs player_form (said_players events) db
@@ -89,7 +89,7 @@ IsMisread events db PairingTable = IsMisreadAs pairing_form read_pairings db
 IsMisread events db BracketTable = IsMisreadAs bracket_form read_bracket db
 IsMisread events db TallyTable = IsMisreadAs tally_form read_tallies db
 
--- the tables between the event's and this one are read, where the event's has these rows
+-- the tables between the event's and this one are read, if the event's has these rows
 abbrev pub ReadsBetween : List EventRow → Database → Place → Type 0
 ReadsBetween events db EventTable = ⊤
 ReadsBetween events db PlayerTable = ⊤
@@ -107,7 +107,7 @@ pub record ReadsParts (db : Database) (parts : Parts) : Type 0 where
 abbrev pub ReadsTallies : Database → List TallyRow → Type 0
 ReadsTallies = MayRead tally_form read_tallies
 
--- a table behind the event's, which is read with some rows, cannot be
+-- a table after the event's cannot be read, while the event's is read with some rows
 abbrev pub IsLaterMisread : Database → Place → Type 0
 IsLaterMisread db place =
     (events : List EventRow) × MayRead event_form read_event db events × ReadsBetween events db place × IsMisread events db place
@@ -139,7 +139,7 @@ IsAtFault db place =
 abbrev pub IfDamaged : (Place → Type 0) → Refusal → Type 0
 IfDamaged P why = (table : Place) → why ≡ Damaged table → P table
 
--- What is found in tables of this version, whatever they hold: it is what they show, and where the tables are ours, they
+-- What is found in tables of this version, whatever they hold: it is what they show, and if the tables are ours, they
 -- represent it, and a change can be written to them.
 pub record FindsEvent (version : ℕ) (old new : State) (e : EventValue) (serial : ℕ) : Type 0 where
   pub parts : ReadsParts old.now (parts_of version e serial)

@@ -9,7 +9,7 @@
 -- Begins is how a store begins, over tables that are made or that are there, and Calls what a call of it does: the records that the
 -- contracts of Store are made of.
 --
--- What private functions alone cite lies in `inside`. In the words of the field: `Represents` is the abstraction relation, and
+-- What only private functions cite lies in `inside`. In the words of the field: `Represents` is the abstraction relation, and
 -- `AfterCrash` the crash condition. Of a step in a transaction `Lends` is the frame, what it leaves alone however it ends, `Achieves` the
 -- postcondition on a clean disk, and `Brings` a step of the refinement: from tables of one event to tables of the next.
 --
@@ -23,7 +23,7 @@
 --     is written in a file of any schema.
 --   `Store::migrate`, by `MovesTables`: from version 1 to 2 in one transaction, whole in one or in the other at every exit, and nothing
 --     leads back. `Store::version` says which.
---   `laws::shown_is_stored`, `stored_represents`, `represented_is_read`: what the tables represent, a crash leaves, and what a crash left
+--   `laws::shown_is_stored`, `stored_represents`, `represented_is_read`: a crash leaves what the tables represent, and what a crash left
 --     represents it again.
 --
 -- Each call may fail for memory or by the store, on a clean disk too. A store that a fault has stopped answers `NeedsReopen` to each call

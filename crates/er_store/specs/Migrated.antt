@@ -33,7 +33,7 @@ pub record IsMigrated (s : State) (e : EventValue) (serial : ℕ) : Type 0 where
   pub shows : RepresentsNow 2 s e serial
   pub emptied : (l : Layout) → l.version ≡ 1 → HasTablesAt l s.now.schema → s.now.trees (l.tree PlayerTable) ≡ []
 
--- What stood stands first, and behind it `player2`. The tables of others have the rows that they had.
+-- What stood stands first, and after it `player2`. The tables of others have the rows that they had.
 pub record MigratesBeside (old new : Database) : Type 0 where
   pub first : StandsFirst old.schema new.schema
   pub just : (table : Table) → Has first.more table → Has (codes "player2" ∷ codes "sqlite_sequence" ∷ []) table.name
@@ -57,7 +57,7 @@ pub record MovesTables {S : Type 0} (g : Ghosts S) (e : EventValue) (serial : �
   pub version : MatchResult result (λ _. store_version new ≡ 2) (λ _. store_version new ≡ store_version old)
   -- a store of version 2 that runs is answered `Ok`, and stays as it is
   pub second : IsFalse (needs_reopen old) → store_version old ≡ 2 → IsOk result × (new ≡ old)
-  -- it is refused where the name `player2` is taken, and a crash then leaves version 1
+  -- it is refused if the name `player2` is taken, and a crash then leaves version 1
   pub taken : IsFalse (needs_reopen old) → store_version old ≡ 1 → HasCleanDisk (store_state g new) → IsTaken (store_state g old).now
       → IsErr result × (RepresentsNow 1 (store_state g old) e serial → AfterCrash (store_state g new) (IsStoredIn 1 e serial))
   -- tables that represent the event in version 1 then represent it in version 2, totals included, and `player` has no rows

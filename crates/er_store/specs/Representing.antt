@@ -143,7 +143,7 @@ pub record KeepsRest (layout : Layout) (old new : Database) : Type 0 where
   pub schema : new.schema ≡ old.schema
   pub rows : AllByRecursion (λ t. IsOther layout t.tree → new.trees t.tree ≡ old.trees t.tree) old.schema.tables
 
--- in tables of this version, wherever they stand; of `player` too, where a migration has left it
+-- in tables of this version, wherever they stand; of `player` too, if a migration has left it
 pub record KeepsOthers (version : ℕ) (old new : Database) : Type 0 where
   pub schema : new.schema ≡ old.schema
   pub rest : (layout : Layout) → layout.version ≡ version → HasTablesAt layout old.schema → KeepsRest layout old new

@@ -241,7 +241,7 @@ set_dropped = codes "UPDATE player SET dropped = 1 WHERE no = ?1"
 abbrev pub set_dropped2 : List ℕ
 set_dropped2 = codes "UPDATE player2 SET dropped = 1 WHERE no = ?1"
 
--- of a migration alone
+-- only of a migration
 abbrev pub clear_players : List ℕ
 clear_players = codes "DELETE FROM player"
 

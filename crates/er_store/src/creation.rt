@@ -38,7 +38,7 @@ fn create_player<S: Alter>(tx: &mut Transaction<'_, S>) -> Result<(), Error>
 pub const CREATE_PLAYER2: &str =
     "CREATE TABLE player2(no INTEGER PRIMARY KEY, name TEXT NOT NULL UNIQUE, dropped INTEGER NOT NULL, joined INTEGER NOT NULL)";
 
-/// Makes the table `player2`, in the place of `player` or behind the five tables of version 1.
+/// Makes the table `player2`, in the place of `player` or after the five tables of version 1.
 pub fn create_player2<S: Alter>(tx: &mut Transaction<'_, S>) -> Result<(), Error>
     ensures lends { Lends S.Store tx.old tx.new }
     ensures makes { MakesNext S.Store player2 event_schema (player_schema (player2 player_tree))

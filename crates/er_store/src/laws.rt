@@ -1,4 +1,4 @@
-//! Laws of tables that represent an event. A law is called for its contract alone, which is the law.
+//! Laws of tables that represent an event. A law is called only for its contract, which is the law.
 
 ghost use Rattle.std.specs.Prelude.{ℕ, ◌≡◌, false, IsTrue};
 ghost use Rattle.sqlite.specs.Effect.{Database, IsDatabase};
@@ -23,7 +23,7 @@ pub fn stored_represents()
         → IsStoredIn v e s db.trees → RepresentsIn v db e s }
 {}
 
-/// Where the tables represent an event, something called `event` can be read.
+/// If the tables represent an event, something called `event` can be read.
 pub fn represented_is_read()
     ensures { (v : ℕ) (db : Database) (e : EventValue) (s : ℕ) → RepresentsIn v db e s → CanRead db.schema }
 {}

@@ -158,8 +158,8 @@ impl<S: Alter> Store<S> {
         }
     }
 
-    /// Reads the event and its serial. It changes no table. Want of memory and a failing store end it as any fault does; a damaged table
-    /// does not.
+    /// Reads the event and its serial. It changes no table. Running out of memory and a failing store end it as any fault does; a
+    /// damaged table does not.
     pub fn load(&mut self, alloc: Global) -> Result<(Event, u32), Refusal>
         ensures reads { OnlyReads S.Store FaultOrDamage self.old result self.new }
         ensures low { IfOk result (λ it. it.1 ≤ MAX_SERIAL) }
@@ -168,7 +168,7 @@ impl<S: Alter> Store<S> {
         ensures found { Finds S.Store Represents (λ e s. OrFails (λ it. (it.0 ≡ e) × (it.1 ≡ s)))
             self.old result self.new }
 
-        // Whatever the tables hold, what is found is what they show, in the version that the event's row has. Where they are ours, they
+        // Whatever the tables hold, what is found is what they show, in the version that the event's row has. If they are ours, they
         // represent it.
         ensures shows { HasCleanDisk (store.store_state S.Store self.new)
             → IfOk result (λ it. (version : ℕ) × IsVersion version
@@ -176,7 +176,7 @@ impl<S: Alter> Store<S> {
             (store.store_state S.Store self.new) it.0
             it.1) }
 
-        // A damaged table that is named is the first at fault. So it is the event's where the event's rows can't be read, which `adopt`
+        // A damaged table that is named is the first at fault. So it is the event's if the event's rows can't be read, which `adopt`
         // answers by `NoEvent`.
         ensures first { HasCleanDisk (store.store_state S.Store self.new)
             → IfErr result (IfDamaged (IsAtFault (store.store_state S.Store self.old).now)) }
@@ -191,8 +191,8 @@ impl<S: Alter> Store<S> {
         Ok((event, serial))
     }
 
-    /// Reads the slip of a match, by one statement. It changes no table. Want of memory, a failing store and a row that the format does not
-    /// allow end it as any fault does.
+    /// Reads the slip of a match, by one statement. It changes no table. Running out of memory, a failing store and a row that the
+    /// format does not allow end it as any fault does.
     pub fn slip(&mut self, alloc: Global, round: u8, table: u16) -> Result<SlipRow, Refusal>
         ensures reads { OnlyReads S.Store (StopsUnless Refusal.NoSuchMatch) self.old result
             self.new }
@@ -217,8 +217,8 @@ impl<S: Alter> Store<S> {
         slip
     }
 
-    /// Reads what each player's matches of the complete rounds come to, by number. It changes no table. Want of memory, a failing store and
-    /// a row that the format does not allow end it as any fault does.
+    /// Reads what each player's matches of the complete rounds come to, by number. It changes no table. Running out of memory, a failing
+    /// store and a row that the format does not allow end it as any fault does.
     pub fn tallies(&mut self, alloc: Global) -> Result<Vec<Tally>, Refusal>
         ensures reads { OnlyReads S.Store StopsByReadFault self.old result self.new }
         // Of tables in its version these are the event's tallies.

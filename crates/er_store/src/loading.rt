@@ -25,7 +25,7 @@ use er_event::{
 use sqlite::{Alter, Connection};
 use std::alloc::Global;
 
-/// The rows of a table of this version.
+/// Loads the rows of a table of this version.
 fn load_rows<T: TableRow, S: Alter>(
     alloc: Global,
     conn: &mut Connection<S>,
@@ -48,14 +48,14 @@ fn says_second(rows: &[EventRow]) -> bool
     rows.iter().any(|row| row.version == 2)
 }
 
-/// The version in whose tables the players are: 2 where a row of the event says so, and else 1.
+/// The version in whose tables the players are: 2 if a row of the event says so, and else 1.
 fn said_version(rows: &[EventRow]) -> u8
     ensures { result ≡ said_version rows.now }
 {
     if says_second(rows) { 2 } else { 1 }
 }
 
-/// The rows of the four tables that an event is made of. Those of the event are read first, since they say where the players are.
+/// Reads the rows of the four tables that an event is made of. Those of the event are read first, since they say where the players are.
 fn read_parts<S: Alter>(alloc: Global, conn: &mut Connection<S>) -> Result<Parts, Refusal>
     ensures { LooksUp S.Store FindsParts MissesTables conn.old result conn.new }
 {
@@ -72,7 +72,7 @@ fn read_parts<S: Alter>(alloc: Global, conn: &mut Connection<S>) -> Result<Parts
     })
 }
 
-/// The rows of the five tables, those of the totals apart.
+/// Reads the rows of the five tables, those of the totals apart.
 fn read_tables<S: Alter>(
     alloc: Global,
     conn: &mut Connection<S>,
@@ -84,7 +84,7 @@ fn read_tables<S: Alter>(
     Ok((parts, tallies))
 }
 
-/// The serial in the event's row, where it is one.
+/// The serial in the event's row, if it is one.
 fn serial_of(rows: &[EventRow]) -> Option<u32>
     ensures { (v : ℕ) (e : EventValue) (s : ℕ) → s ≤ MAX_SERIAL → rows.now ≡ event_row v e s ∷ []
         → result ≡ Some s }
@@ -95,7 +95,7 @@ fn serial_of(rows: &[EventRow]) -> Option<u32>
     }
 }
 
-/// The event that the rows are of, with its serial and the version of its tables.
+/// Makes the event that the rows are of, with its serial and the version of its tables.
 fn event_of(alloc: Global, parts: Parts) -> Result<(Event, u32, u8), Refusal>
     ensures value { IfOk result (λ it. IsWhole parts it.0 it.1 it.2) }
     ensures only { (v : ℕ) (e : EventValue) (s : ℕ) → IsWhole parts e s v
@@ -114,7 +114,7 @@ fn event_of(alloc: Global, parts: Parts) -> Result<(Event, u32, u8), Refusal>
     Ok((event, serial, version))
 }
 
-/// The event that the rows are of, with its serial and its version, where the totals are the event's.
+/// Makes the event of the rows, with its serial and its version, if the totals are the event's.
 fn counted_event_of(
     alloc: Global,
     parts: Parts,

@@ -21,7 +21,7 @@ use er_event::{Cause, Place, Refusal};
 use sqlite::{Alter, Connection, Error, ErrorCode, params};
 use std::alloc::Global;
 
-/// The rows of a table of this version, in the order of its key. A crash in it leaves what it could leave before.
+/// Reads the rows of a table of this version, in the order of its key. A crash in it leaves what it could leave before.
 pub fn read_table<T: TableRow, S: Alter>(
     alloc: Global,
     conn: &mut Connection<S>,
@@ -57,8 +57,8 @@ fn slip_text(version: u8) -> &'static str
     if version == 2 { READ_SLIP2 } else { READ_SLIP }
 }
 
-/// The match of a round and a table with the names of its players, in tables of this version. A crash in it leaves what it could leave
-/// before.
+/// Reads the match of a round and a table with the names of its players, in tables of this version. A crash in it leaves what it could
+/// leave before.
 pub fn read_slip<S: Alter>(
     alloc: Global,
     conn: &mut Connection<S>,
@@ -80,7 +80,7 @@ pub fn read_slip<S: Alter>(
 pub const READ_MEETINGS: &str =
     "SELECT p.round, p.tab, p.done, l.no, l.points, l.rounds, l.gamepoints, l.games, h.no, h.points, h.rounds, h.gamepoints, h.games FROM pairing AS p LEFT JOIN tally AS l ON l.no = p.lo LEFT JOIN tally AS h ON h.no = p.hi WHERE +p.lo > 0 ORDER BY p.round, p.tab";
 
-/// The matches of two players by round and table, with the totals of the two, read one row at a time. A crash in it leaves what it could
+/// Reads the matches of two players by round and table, with the totals of the two, one row at a time. A crash in it leaves what it could
 /// leave before.
 pub fn read_meetings<S: Alter>(
     alloc: Global,

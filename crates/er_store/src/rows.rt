@@ -18,7 +18,7 @@ use std::alloc::Global;
 #[derive(Drop)]
 pub struct NamedPairing {
     pub pairing: PairingRow,
-    /// None where no player has the number.
+    /// None if no player has the number.
     pub lo_name: Option<Items<u8>>,
     pub hi_name: Option<Items<u8>>,
 }

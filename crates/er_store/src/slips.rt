@@ -33,7 +33,7 @@ fn side(number: u16, name: &Option<Items<u8>>) -> Option<Option<(PlayerNo, Name)
     }
 }
 
-/// The slip that a row shows, where the format allows it.
+/// Reads the slip that a row shows, if the format allows it.
 fn slip_of(round: u8, table: u16, row: &NamedPairing) -> Option<SlipRow>
     ensures value { IfSome result (λ slip. (row.now ≡ named_pairing slip) × (slip.round ≡ round)
         × (slip.table ≡ table) × IsLawfulSlip slip) }
@@ -57,7 +57,7 @@ fn slip_of(round: u8, table: u16, row: &NamedPairing) -> Option<SlipRow>
     })
 }
 
-/// The slip of the match at a table of a round, by one statement, in tables of this version.
+/// Finds the slip of the match at a table of a round, by one statement, in tables of this version.
 pub fn find_slip<S: Alter>(
     alloc: Global,
     conn: &mut Connection<S>,

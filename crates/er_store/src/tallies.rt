@@ -121,7 +121,7 @@ fn meetings_of(alloc: Global, rows: &[MeetingRow]) -> Result<Vec<Meeting>, Refus
     Ok(meetings)
 }
 
-/// The tallies of the players, by number, in tables of this version.
+/// Finds the tallies of the players, by number, in tables of this version.
 pub fn find_tallies<S: Alter>(
     alloc: Global,
     conn: &mut Connection<S>,
@@ -143,7 +143,7 @@ pub fn find_tallies<S: Alter>(
     tallies_of(alloc, players.as_slice(), rows.as_slice())
 }
 
-/// Who met whom in the complete rounds, by round and table, by one statement.
+/// Finds who met whom in the complete rounds, by round and table, by one statement.
 pub fn find_meetings<S: Alter>(
     alloc: Global,
     conn: &mut Connection<S>,

@@ -238,7 +238,8 @@ fn recount_one<S: Alter>(
     Ok(())
 }
 
-/// Sets the totals that the change alters.
+/// If the change may alter any totals, sets those that it alters, and those of the players of a
+/// match that it corrects.
 fn recount<S: Alter>(
     tx: &mut Transaction<'_, S>,
     event: &Event,

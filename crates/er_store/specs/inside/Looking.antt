@@ -18,7 +18,7 @@ pub record OnlyLooks {S A E : Type 0} (g : Ghosts S) (old : Held S) (result : Re
   pub kept : HasCleanDisk (state g new) → OnErr result (KeepsTables (state g old) (state g new))
   pub survives : Survives (state g old) (state g new) (λ _. ⊥)
 
--- What it answers where the tables, seen in this way, represent a sound event.
+-- What it answers if the tables, seen in this way, represent a sound event.
 abbrev pub FindsBy : {S A E : Type 0} (g : Ghosts S) → (Database → EventValue → ℕ → Type 0) → (EventValue → ℕ → Result A E → Type 0)
     → Held S → Result A E → Held S → Type 0
 FindsBy g See Answers old result new =

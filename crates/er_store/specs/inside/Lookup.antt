@@ -39,7 +39,7 @@ abbrev pub is_select_by : Statement → Bool
 is_select_by (written.Select s) = true
 is_select_by _ = false
 
--- the text begins with a SELECT, by its grammar alone
+-- the text begins with a SELECT, by its grammar only
 abbrev pub begins_select : Checked Parsed → Bool
 begins_select (Ok p) = is_select_by p.statement
 begins_select (Err e) = false
@@ -70,7 +70,7 @@ pub record LooksUp {S A : Type 0} (g : Ghosts S) (Finds : Database → A → Typ
   pub misses : HasCleanDisk (state g new) → IfErr result (Misses (state g old).now)
   pub fault : IfErr result IsLoadFault
 
--- The rows of a table, read by this statement: as SQL alone says, and where it is the statement of how the tables lie, as
+-- The rows of a table, read by this statement: as SQL itself says, and if it is the statement of how the tables lie, as
 -- they list them, and as the event has them.
 pub record FindsRows {R : Type 0} (form : Form R) (table : Shape R) (sql : List ℕ) (db : Database) (rows : List R) : Type 0 where
   pub reads : MayRead form sql db rows
@@ -78,7 +78,7 @@ pub record FindsRows {R : Type 0} (form : Form R) (table : Shape R) (sql : List 
   pub exact : (l : Layout) → table.read l.version ≡ sql → (e : EventValue) (s : ℕ) → RepresentsAt l db e s → IsSoundButForSeeds e
       → rows ≡ table.rows l.version e s
 
--- where the tables stand, memory or the device; and damage is of this table
+-- if the tables stand, memory or the device; and damage is of this table
 pub record MissesRows {R : Type 0} (form : Form R) (table : Shape R) (sql : List ℕ) (db : Database) (why : Refusal) : Type 0 where
   pub misread : (at : Place) → why ≡ Damaged at → (at ≡ table.place) × IsMisreadAs form sql db
   pub refused : (l : Layout) → table.read l.version ≡ sql → (e : EventValue) (s : ℕ) → RepresentsAt l db e s → IsSoundButForSeeds e
@@ -102,7 +102,7 @@ pub record IsWhole (parts : Parts) (e : EventValue) (serial version : ℕ) : Typ
 abbrev pub FindsTables : Database → Parts × List TallyRow → Type 0
 FindsTables db it = FindsParts db it.0 × FindsRows tally_form tally_table read_tallies db it.1
 
--- where the tables stand, memory or the device; and damage is of the first table that is misread
+-- if the tables stand, memory or the device; and damage is of the first table that is misread
 pub record MissesTables (db : Database) (why : Refusal) : Type 0 where
   pub misread : IfDamaged (IsFirstMisread db) why
   pub refused : (e : EventValue) (s : ℕ) → Represents db e s → IsSoundButForSeeds e → IsFault why

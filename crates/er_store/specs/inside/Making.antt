@@ -1,4 +1,4 @@
--- Tables that are made behind those that stand, and one that is found by its name.
+-- Tables that are made after those that stand, and one that is found by its name.
 use Rattle.std.specs.Prelude.{◌≡◌, ◌<◌, ℕ, true, false, List, [], ◌∷◌, Some, slice_get, codes, IsTrue}
 use Rattle.std.specs.List.{AllByRecursion}
 use Rattle.sqlite_catalog.specs.Change.{is_used, next_tree}
@@ -22,7 +22,7 @@ pub record IsFound (schema : Schema) (at : ℕ) (table : Table) : Type 0 where
   pub named : table_named schema table.name ≡ Some at
   pub is : slice_get schema.tables at ≡ Some table
 
--- This table comes next behind all that stood, with no row.
+-- This table comes next after all that stood, with no row.
 pub record Grows (table : ℕ → Table) (old new : Database) : Type 0 where
   pub keeps : KeepsFirst old new
   pub rest : List Table

@@ -26,7 +26,7 @@ meeting_row come_to round numbered =
       hi = tally_row (max m.a m.b) (come_to (max m.a m.b));
     }
 
--- a bye is no meeting
+-- a bye isn't a meeting
 abbrev pub round_meetings : (ℕ → Totals) → ℕ → List Match → List MeetingRow
 round_meetings come_to round matches =
     map (meeting_row come_to round) (filter (λ (n : ℕ × Match). not (is_bye n.1)) (enumerate_from 1 matches))

@@ -49,7 +49,7 @@ HasNumber r = (id : ℤ) × (rowid r ≡ Int id)
 abbrev pub HaveNumbers : List Row → Type 0
 HaveNumbers rows = All HasNumber rows
 
--- What stood before stands first, and `player2` comes next behind it. The tables of others have the rows that they had.
+-- What stood before stands first, and `player2` comes next after it. The tables of others have the rows that they had.
 pub record KeepsBefore (move : Move) (db : Database) : Type 0 where
   pub first : StandsFirst move.before.schema db.schema
   pub just : (table : Table) → Has first.more table → Has (codes "player2" ∷ codes "sqlite_sequence" ∷ []) table.name

@@ -32,7 +32,7 @@ table_query tree terms keys = record (plain_query (inner tree end) [] terms) {
   order = map (λ place. (col 1 place, record { collation = Binary; descending = false })) keys;
 }
 
--- the text is one statement with so many parameters
+-- the text is one statement with `n` parameters
 abbrev pub TakesParameters : ℕ → List ℕ → Result Compiled CompileError → Type 0
 TakesParameters n sql (Ok c) = (length sql ≤ c.tail) × (length c.names ≡ n)
 TakesParameters n sql (Err e) = ⊥

@@ -52,7 +52,7 @@ Inside old new = IsTrue new.in_transaction
 abbrev pub HasPlayer : EventValue → ℕ → Type 0
 HasPlayer e number = (numbers e.players ≡ range_with_len 1 (length e.players)) × Contains (numbers e.players) number
 
--- Of the one schema it makes the other, with a table more; and whatever stood, the table stands behind it.
+-- Of the one schema it makes the other, with one table more; and whatever stood, the table comes after it.
 pub record MakesNext {S : Type 0} (g : Ghosts S) (table : ℕ → Table) (before after : Schema)
     (old : Transaction S) (result : Result (Unit {0}) Error) (new : Transaction S)
     : Type 0 where

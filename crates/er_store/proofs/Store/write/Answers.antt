@@ -35,7 +35,7 @@ returns-in-Ok g c =
       crash = λ runs was. made.crash was;
     }
 
--- What it leaves where the transaction was refused. That the store has stopped then, and stays on its connection, is for `search`
+-- What it leaves if the transaction was refused. That the store has stopped then, and stays on its connection, is for `search`
 -- to find, so that a body that goes on is refused there.
 failed_writes : {S : Type 0} (g : Ghosts S) {e next : EventValue} {serial : ℕ} (old new : Store S g) (conn : Held S) {why : Refusal}
     {error : Error}

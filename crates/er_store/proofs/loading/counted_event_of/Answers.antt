@@ -9,7 +9,7 @@ returns-then-has_tallies-clause-only c v e s whole counted = c.in_ok-event.ensur
 pub returns-else-has_tallies-clause-refused : goal.returns-else-has_tallies-clause-refused
 returns-else-has_tallies-clause-refused c =
     let of = c.in_ok-event.ensures.value in
-    -- the rows are of the event alone that was read of them
+    -- the rows are of no event but the one that was read of them
     let same : (e : EventValue) → IsOf c.args.parts e → IsSoundButForSeeds e → e ≡ c.in_ok-event.event = λ e is sound.
     let whole : IsWhole c.args.parts e is.serial is.version =
     record { known = is.known; keeps = is.keeps; low = is.low; are = is.are; sound = sound } in

@@ -9,7 +9,7 @@ use Rattle.er_store.specs.{Damage.{IsAtFault, IfDamaged}, Fault.IsLoadFault}
 use Rattle.er_store.proofs.{Refusals.first_of, LoadLemmas.told, Loaded.{no_row_fault, shows_event}}
 use Rattle.er_store.proofs.loading.load_tables.Goals as goal
 
--- what is found, where the tables are of the version that their row says
+-- what is found, if the tables are of the version that their row says
 holds : {db : Database} {parts : Parts} {rows : List TallyRow} {e : EventValue} {s v : ℕ} (has : HasTables v db.schema)
     → IsWhole parts e s v
     → FindsParts db parts → rows ≡ tally_rows e → ListsTallies has.0 db rows → HoldsEvent v db e s

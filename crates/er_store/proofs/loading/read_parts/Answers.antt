@@ -19,7 +19,7 @@ load_rows-requires-3 g c = pairing_is_ours
 pub load_rows-requires-4 : goal.load_rows-requires-4
 load_rows-requires-4 g c = bracket_is_ours
 
--- where the tables stand, the rows of the event say which version they are of
+-- if the tables stand, the rows of the event say which version they are of
 said : {db : Database} {events : List EventRow} → FindsRows event_form event_table read_event db events
     → (l : Layout) (e : EventValue) (s : ℕ)
     → RepresentsAt l db e s → IsSoundButForSeeds e → said_version events ≡ l.version

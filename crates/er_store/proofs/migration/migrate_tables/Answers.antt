@@ -6,7 +6,7 @@ use Rattle.er_store.specs.{Migrated.CanMigrate, inside.Moving.IsMoved}
 use Rattle.er_store.proofs.migration.migrate_tables.Given as given
 use Rattle.er_store.proofs.migration.migrate_tables.Goals as goal
 
--- the move went well, as it did where the commit is reached
+-- the move went well, since the commit is reached
 moved : (g : given.Over) (c : goal.After-conn-2-1 g) → HasCleanDisk (state g.S.Store c.commit.new.self.0) → (s : ℕ)
     → CanMigrate (state g.S.Store c.args.conn.now) c.args.event.now s
     → IsMoved (state g.S.Store c.args.conn.now).now (state g.S.Store c.move_players.new.tx.conn.now) c.args.event.now s
@@ -45,7 +45,7 @@ returns-clause-crash g c s may clean trees left =
     (rw c.transaction-tx.ensures.begun at c.move_players.ensures.lends.stays.survives)
     c.commit.ensures.survives late trees (rw (← same) at left)
 
--- where the move is refused, the transaction is dropped
+-- if the move is refused, the transaction is dropped
 pub returns-in_err-move_players-clause-crash : goal.returns-in_err-move_players-clause-crash
 returns-in_err-move_players-clause-crash g c s may clean trees left =
     let old = state g.S.Store c.args.conn.now in

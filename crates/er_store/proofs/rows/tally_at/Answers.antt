@@ -11,7 +11,7 @@ shown row at r is =
     let place = λ (n m : ℕ) (same : n ≡ m). ap (column row) same in
     (nth 0, nth 1, place _ _ (omega arith) ∙ nth 2, place _ _ (omega arith) ∙ nth 3, place _ _ (omega arith) ∙ nth 4)
 
--- where one of them is no number, they are of no tally
+-- if one of them isn't a number, they are of no tally
 pub returns-in_err-get-clause-refused : goal.returns-in_err-get-clause-refused
 returns-in_err-get-clause-refused c =
     let p = err_from_is_err_and c.from_residual.result c.from_residual.ensures.1 in

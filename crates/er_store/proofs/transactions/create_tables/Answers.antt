@@ -5,7 +5,7 @@ use Rattle.er_store.specs.inside.Making.{IsReadyBeside}
 use Rattle.er_store.proofs.transactions.create_tables.Given as given
 use Rattle.er_store.proofs.transactions.create_tables.Goals as goal
 
--- in an empty file the five stand alone
+-- in an empty file the five are the only ones
 pub returns-clause-alone : goal.returns-clause-alone
 returns-clause-alone g c clean none =
     let same : c.commit.new.self.0 ≡ c.conn-2-1.given.0 = search rules in

@@ -19,7 +19,7 @@ rest_kept l {old} {new} has keeps = record {
   };
 }
 
--- the change went well, as it did where the commit is reached
+-- the change went well, since the commit is reached
 ready : (g : given.Over) (c : goal.After-conn-2-1 g) → HasCleanDisk (state g.S.Store c.commit.new.self.0)
     → RepresentsNow c.args.version (state g.S.Store c.args.conn.now) c.args.event.now c.args.serial
     → IsReady c.args.version (state g.S.Store c.change_event.new.tx.conn.now) (after c.args.event.now c.args.change.now) (c.args.serial + 1)
@@ -62,7 +62,7 @@ returns-clause-crash g c was clean trees may =
     (rw c.transaction-tx.ensures.begun at c.change_event.ensures.lends.stays.survives)
     c.commit.ensures.survives late trees (rw (← same) at may)
 
--- where the change is refused, the transaction is dropped
+-- if the change is refused, the transaction is dropped
 pub returns-in_err-change_event-clause-crash : goal.returns-in_err-change_event-clause-crash
 returns-in_err-change_event-clause-crash g c was clean trees may =
     let old = state g.S.Store c.args.conn.now in
