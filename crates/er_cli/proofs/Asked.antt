@@ -29,7 +29,7 @@ asks_push g first old new (q ∷ questions) [] question told is asked answered =
 asks_push g first old new (q ∷ questions) (a ∷ answers) question told is asked answered =
     (is.0, is.1, is.2, asks_push g is.0 old new questions answers question told is.3 asked answered)
 
--- the tables may be migrated, where a migration is asked
+-- the tables may be migrated, if a migration is asked
 abbrev pub MayIf : {S : Type 0} (g : Ghosts S) → Type 0 → Desk S g → Type 0
 MayIf g Asked desk = Asked → HasCleanDisk (state g desk) → MayMigrate g desk
 
@@ -68,7 +68,7 @@ module _ {S : Type 0} (g : Ghosts S) (Asked : Type 0) (old new : Desk S g) where
     crash = λ may. (goes_asking g old session new it).crash;
   }
 
--- a migration: where the desk then runs, its tables are of version 2
+-- a migration: if the desk then runs, its tables are of version 2
 moved_second : (old new : DeskState) (moved : Result ℕ Refusal) → Migrates old moved new → IsFalse new.needs_reopen → new.version ≡ 2
 moved_second old new (Ok serial) it runs = ap (λ (s : DeskState). s.version) it.2
 moved_second old new (Err why) (inl it) runs =
@@ -120,7 +120,7 @@ module _ {S : Type 0} (g : Ghosts S) (old new : Desk S g) where
   went_one (SlipOf round table) told it = went_asking g _ old new _ it
   went_one Migrate told it = went_moving told it
 
--- ---- one behind the other
+-- ---- one after the other
 
 nothing_more : (s : Session) → join_sessions s no_session ≡ s
 nothing_more s =

@@ -83,7 +83,7 @@ comes_next None mid then reads wrote was it same = tt
 comes_next (Some inputs) mid then reads wrote was (input, rest, is, sends, nothing, fine, others) same =
     inl (input, rest, is, sends, same ∙ others)
 
--- ---- what is printed where serving ends early
+-- ---- what is printed if serving ends early
 
 module _ (port count : ℕ) (before after : Option (List ℕ)) (line : List ℕ) (is : line ≡ listening_text port) where
   pub port_in_part : AppendsPart before after line → PrintsServed port count (stream before after) DEVICE

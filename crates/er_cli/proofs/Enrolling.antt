@@ -55,7 +55,7 @@ none_more replies reply none on = rw (list_any-append is_stop replies (reply ∷
 one_longer : (replies : List Reply) (reply : Reply) → length (replies ++ reply ∷ []) ≡ length replies + 1
 one_longer replies reply = length-append replies (reply ∷ [])
 
--- the session with this command behind it
+-- the session with this command after it
 abbrev pub with_name : Session → List ℕ → Reply → DeskState → Session
 with_name session name reply new = join_sessions session (session_of (Enrol name ∷ []) (reply ∷ []) new.needs_reopen)
 
@@ -94,7 +94,7 @@ module _ (grow : ListsGrow) (names : List (List ℕ)) (old mid new : DeskState) 
   fits : length (so_far.replies ++ reply ∷ []) ≡ length (names ++ name ∷ [])
   fits = one_longer so_far.replies reply ∙ ap (λ n. n + 1) as_many ∙ sym (length-append names (name ∷ []))
 
-  -- the whole list, where this one doesn't stop it
+  -- the whole list, if this one doesn't stop it
   pub enrols_more : is_stop reply ≡ false → (next : Additions) → next ≡ additions_of (so_far.replies ++ reply ∷ [])
       → Enrols (names ++ name ∷ []) old next None (with_name session name reply new) new
   enrols_more on next is =
@@ -110,7 +110,7 @@ module _ (grow : ListsGrow) (names : List (List ℕ)) (old mid new : DeskState) 
         ends = tt;
       }
 
-  -- and where it does
+  -- and if it does
   pub enrols_stop : (why : Refusal) → reply ≡ Err why → is_stop reply ≡ true → (all : List (List ℕ))
       → take (length (names ++ name ∷ [])) all ≡ names ++ name ∷ []
       → Enrols all old additions (Some why) (with_name session name reply new) new

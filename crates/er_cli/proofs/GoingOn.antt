@@ -249,7 +249,7 @@ pub record IsFound {D : Type 0} (d : disk.Ghosts D) (image : Image) (first : Pla
 
 module _ {D : Type 0} (d : disk.Ghosts D) (image : Image) (first : Placed) (desk : Desk (FileStore D d) over_files)
     (found : IsFound d image first desk) (clean : HasCleanDisk (state over_files desk)) where
-  -- its tables may be migrated where those of the file may
+  -- its tables may be migrated if those of the file may
   pub may_migrate : MayMoveTables image first.point → MayMigrate over_files desk
   may_migrate may = by shows.represents.represents.has.tables.known
     where
@@ -306,7 +306,7 @@ module _ (new : Point) (first : Placed) (ends : List Ended) (begins : IsBeginnin
 first_placed : (new : Point) (old : DeskState) → old ≡ running_at new 2 → placed_of old ≡ placed_at new 2
 first_placed new old is = ap placed_of is
 
--- where an event was made in a file in which no foreign key waited for its tables, its empty history begins
+-- if an event was made in a file in which no foreign key waited for its tables, its empty history begins
 pub made_begins : NextSessions → {D : Type 0} (d : disk.Ghosts D) (image : Image) (name : List ℕ) (rounds cut : ℕ)
     (desk : Desk (FileStore D d) over_files)
     → IsSetUp name rounds cut → HasMade image name rounds cut desk → Asks over_files desk no_session desk
@@ -404,7 +404,7 @@ module _ (law : NextSessions) (image : Image) (new : Point) (first : Placed) (en
               (ends_nowhere first trees (subst (IsStoredAt first) (sym same) was.left.2)),
         )
 
-    -- where the event is not served, memory or the device was wanting
+    -- if the event is not served, memory ran out or the device failed
     refused_fault : (fault : OpenFault D d) (why : Refusal) → why ≡ why_of fault → (IsCleanFault fault → IsFault (why_of fault))
         → OnRefused fault (λ conn. HasCleanDisk (file_state conn) → IsFault why)
     refused_fault (NotOpened refusal left) why is failed = tt
@@ -457,7 +457,7 @@ module _ {D : Type 0} (d : disk.Ghosts D) (world : World) (file : List ℕ) (wha
       → Tells (Refused why) p → (task : Task) → GoesOnAction d world file (Open task) what p
   absent_goes_on why cause none tells task = inl (record { done = why; told = tells; file = (none, cause) })
 
-  -- memory is wanting for any words
+  -- memory may run out for any words
   pub unread_goes_on : what ≡ Nothing → Tells (Refused Memory) p → (action : Action) → GoesOnAction d world file action what p
   unread_goes_on none tells (Init name rounds cut) = λ new first ends was. record {
     done = Refused Memory;
@@ -470,7 +470,7 @@ module _ {D : Type 0} (d : disk.Ghosts D) (world : World) (file : List ℕ) (wha
   unread_goes_on none tells (Open task) = absent_goes_on Memory (inr (inl refl)) none tells task
 
   module _ (new : Point) (first : Placed) (ends : List Ended) (was : RecoversHistory (world.image file) new ends first) where
-    -- Where a history is, no other event is made on a clean disk.
+    -- If there is a history, no other event is made on a clean disk.
     no_other : (name : List ℕ) (rounds cut : ℕ) (told : Told) → MakesEvent d (world.image file) name rounds cut told what
         → MakesNoOther d new ends first told what
     no_other name rounds cut told (inl (set_up, is, (desk, made, put, begins))) = record {

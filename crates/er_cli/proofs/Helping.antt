@@ -76,6 +76,6 @@ no_line (name ∷ word ∷ []) is =
     rw (or_right (is_option name) _ (or_left (is_option word) false last)) refl
 no_line (a ∷ b ∷ c ∷ words) is = absurd (true≢false (sym is))
 
--- where there is a text, they ask for one
+-- if there is a text, they ask for one
 pub asked : (words : List (List ℕ)) (text : List ℕ) → text_for words ≡ Some text → IsTrue (asks_text words)
 asked words text is = exactly words ∙ ap is_some is

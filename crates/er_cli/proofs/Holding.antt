@@ -132,7 +132,7 @@ module _ {D : Type 0} (d : disk.Ghosts D) (law : NextSessions) (files : Files D)
         stored first.version (file_state conn).now first.point.event first.point.serial (it.1 it.0.is_open).0
         (subst (IsStoredAt first) (sym (ap (λ (db : Database). db.trees) it.0.clean ∙ committed_is)) was.left.2)
 
-    -- where the event was not taken over, the history stays where it is
+    -- if the event was not taken over, the history stays where it is
     pub still_begins : (trees : Trees) → trees ≡ (file_state conn).committed.trees → BeginsIn (Stays first.version) new ends no_session
         trees
     still_begins trees is = (

@@ -17,7 +17,7 @@ use Rattle.sqlite.specs.{Closing.{HoldsAlone, IsCopied}, Files.HoldsDatabase, He
 use Rattle.sqlite.proofs.Theorems.{copied}
 use Rattle.er_cli.specs.inside.Closing.{CopiesLog}
 
--- the header stays, and the gate behind it
+-- the header stays, and the gate after it
 stops_longer : (it : Index) (log kept longer : List ℕ) → length it.numbers ≡ 0 → StopsAt it log kept → Cut 56 kept longer
     → StopsAt it log longer
 stops_longer it log kept longer none stops cut =
@@ -85,7 +85,7 @@ module _ {D : Type 0} {g : Ghosts D} (it : FileStore D g) (stays : SeenMayStay g
     alone = (copied it stays is_open numbered sound empty left may).alone;
   }
 
--- What was copied is in the database file, beside the longer log and alone.
+-- What was copied is in the database file, with the longer log beside it and without.
 pub copied_longer : {D : Type 0} {g : Ghosts D} → SeenMayStay g → (conn : Held (FileStore D g)) (store : FileStore D g) (files : Files D)
     (longer : D) → CopiesLog conn store → (files.log, files.db) ≡ store_files store
     → (IsTrue (g.is_clean longer) → IsTrue (g.is_clean files.log)) → Follows (Cut 56) (g.may_leave files.log) (g.may_leave longer)

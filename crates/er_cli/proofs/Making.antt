@@ -1,4 +1,4 @@
--- What is answered to `init`.
+-- The answer to `init`.
 use Rattle.std.proofs.Common.{◌≡◌, ℕ, Bool, true, List, Result, Ok, Err, MatchResult}
 use Rattle.std.proofs.Common.{IsFalse, inl, inr, is_ok, refl, sym, ap, subst, ◌∙◌, true≢false}
 use Rattle.sqlite_disk.specs.declared.Disk as disk
@@ -75,7 +75,7 @@ module _ {D : Type 0} {g : disk.Ghosts D} where
         cleared_such (Either (λ trees. trees ≡ db) (IsStoredBeside 2 new.event it.old)) (OpenedInVain conn refusal) what is it.leaves,
       )
 
-  -- what is left where something called `event` can be read
+  -- what is left if something called `event` can be read
   abbrev LeavesJust : Image → Remains D g → Type 0
   LeavesJust image what = (db : Database) × HasAnEvent image db × RecoversSuch (λ trees. trees ≡ db.trees) what
 

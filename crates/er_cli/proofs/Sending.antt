@@ -43,7 +43,7 @@ fits n size is = grind (arith, nat_tests)
 past : (n size : ℕ) → nat_le n size ≡ false → size ≤ n
 past n size is = grind (arith, nat_tests)
 
--- a beginning of a text is one of the text with more behind it
+-- a beginning of a text is one of the text with more after it
 pub part_first : (before after : Option (List ℕ)) (text more : List ℕ) → AppendsPart before after text
     → AppendsPart before after (text ++ more)
 part_first before after text more part = by_size (nat_le part.0 (length text)) refl

@@ -9,7 +9,7 @@ use Rattle.er_answers.specs.declared.question.Question.TheVariants.{Submit, Stan
 use Rattle.er_answers.specs.declared.question.Told.TheVariants.{Refused}
 use Rattle.er_cli.specs.{declared.action.Action.Action, declared.texts.LineAnswer.TheVariants.Asked, Script.LineAnswers}
 
--- memory may be wanting for any line, and then all stays as it is
+-- memory may run out for any line, and then all stays as it is
 pub memory_answers : (old : Option DeskState) (action : Option Action) → LineAnswers old action (Asked (Refused Memory)) old
 memory_answers old None = (inr refl, refl)
 memory_answers old (Some action) = inr (refl, refl)

@@ -48,7 +48,7 @@ none_then_doubt : (doubt : Option Command) → later_in_doubt None doubt ≡ dou
 none_then_doubt None = refl
 none_then_doubt (Some command) = refl
 
--- with no session behind it
+-- with no session after it
 pub alone : (s : Session) → s ≡ join_sessions s no_session
 alone s = ap (λ (cs : List Command). let it : Session = record { acknowledged = cs; in_doubt = s.in_doubt } in it)
     (sym (append-nil s.acknowledged))

@@ -10,7 +10,7 @@ use Rattle.er_slips.specs.declared.serve.Served.{Served}
 use Rattle.er_slips.specs.declared.serve.Served.TheVariants.{Answered, ReadFault, WriteFault}
 use Rattle.er_slips.specs.Serving.{EndsServing}
 
--- what a client got, where that is known, and whether a call of its connection has failed
+-- what a client got, if that is known, and whether a call of its connection has failed
 pub record Got : Type 0 where
   pub bytes : Option (List ℕ)
   pub failed : Bool
@@ -27,14 +27,14 @@ GetsLast old bytes failed None = Unit {0}
 GetsLast None bytes failed (Some all) = ⊥
 GetsLast (Some gots) bytes failed (Some all) = all ≡ gots ++ record { bytes = bytes; failed = failed } ∷ []
 
--- serving broke off only where a call of the one side or the other has failed
+-- serving broke off only if a call of the one side or the other has failed
 abbrev pub tells : (read_failed write_failed : Bool) → Served → Bool
 tells read_failed write_failed (Answered status) = true
 tells read_failed write_failed ReadFault = read_failed
 tells read_failed write_failed (WriteFault sent) = write_failed
 
 -- How one client was served, whatever state the desk is in: what it sent, what it got, and what was asked of the file for it belong together.
--- Where no call of its connection has failed, it was answered.
+-- If no call of its connection has failed, it was answered.
 pub record IsServedTo (Represented : Type 0) (old : DeskState) (input : List ℕ) (got : Got) (session : Session) (new : DeskState)
     : Type 0 where
   pub served : Served
@@ -50,7 +50,7 @@ GetEach Represented old (input ∷ inputs) (got ∷ gots) session new =
 GetEach Represented old [] (got ∷ gots) session new = ⊥
 GetEach Represented old (input ∷ inputs) [] session new = ⊥
 
--- So many of those who were to come were served by the desk, one after the other, and the file took what they asked for and nothing else.
+-- `count` of those who were to come were served by the desk, one after the other, and the file took what they asked for and nothing else.
 -- That each answer is the one of the event rests on tables that represented it, on a clean disk.
 pub record ServesSome {S : Type 0} (g : Ghosts S) (count : ℕ) (inputs : List (List ℕ)) (before : List Got) (old : Desk S g)
     (coming : Option (List (List ℕ))) (all : List Got) (new : Desk S g) : Type 0 where

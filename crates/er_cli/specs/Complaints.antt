@@ -1,4 +1,4 @@
--- What a person is told of words that are no command line. Each text is nested to the left, as it is written part by part.
+-- What a person is told of words that aren't a command line. Each text is nested to the left, as it is written part by part.
 use Rattle.std.specs.Prelude.{◌≡◌, ◌⊎◌, ℕ, ◌==◌, if◌then◌else◌, List, [], ◌∷◌, ◌++◌, Option, Some, None, unwrap_or, slice_get, codes}
 use Rattle.er_event.specs.declared.refusals.Refusal.TheVariants.{Memory}
 use Rattle.er_cli.specs.declared.TheConstants.{USAGE}
@@ -31,12 +31,12 @@ place_of (BadSeed place) = place
 place_of (BadCount place) = place
 place_of (BadKind place) = place
 
--- the word at fault, where there is one
+-- the word at fault, if there is one
 abbrev pub complaint_head : Option (List ℕ) → List ℕ
 complaint_head None = codes "event_reporter: "
 complaint_head (Some word) = ((codes "event_reporter: " ++ codes "`") ++ word) ++ codes "` "
 
--- The first fault is named, and how the subcommand is called, or where to look. Words that are no text come as none.
+-- The first fault is named, and how the subcommand is called, or where to look. Words that aren't text come as none.
 abbrev pub Complains : List (List ℕ) → List ℕ → Type 0
 Complains [] text = text ≡ NO_TEXT.now
 Complains (name ∷ words) text =

@@ -32,7 +32,7 @@ use Rattle.er_cli.specs.Tasks.Work.{Commands, Migration}
 use Rattle.er_cli.specs.declared.remains.Remains.{Remains}
 use Rattle.er_cli.specs.declared.remains.Remains.TheVariants.{Nothing}
 
--- No file is given back. It is refused that there is no event, which comes only if it isn't known that the file is there, or for memory or
+-- No file is given back. It is refused since there is no event, which comes only if it isn't known that the file is there, or for memory or
 -- by the device.
 abbrev pub IsNotThere : {D : Type 0} {g : disk.Ghosts D} → (is_there : Option Bool) → Refusal → Remains D g → Type 0
 IsNotThere is_there why what = (what ≡ Nothing) × (((why ≡ NoEvent) × (is_there ≢ Some true)) ⊎ IsFault why)
@@ -50,13 +50,13 @@ abbrev pub WorksOn : {S : Type 0} (g : Ghosts S) → Desk S g → Work → Desk 
 WorksOn g old (Commands session) new = Asks g old session new
 WorksOn g old (Migration told) new = MovesFile g old told new
 
--- No event was made: the file has one, or memory or the store fails. What the file held is left then, alone or with the event's tables
--- beside it, or, where no foreign key waited for one of them, that event whole; and of a file that a history left just that.
+-- No event was made: the file has one, or memory or the store fails. What the file held is left then, by itself or with the event's tables
+-- beside it, or, if no foreign key waited for one of them, that event whole; and of a file that a history left just that.
 pub record HasMadeNone {D : Type 0} {g : disk.Ghosts D} (image : Image) (new : Point) (why : Refusal) (what : Remains D g)
     : Type 0 where
   pub cause : (why ≡ EventExists) ⊎ IsFault why
   pub unopened : IfUnopened (SparesAt image) why what
-  -- `EventExists` comes only where something called `event` can be read, and just that is left
+  -- `EventExists` comes only if something called `event` can be read, and just that is left
   pub exists : why ≡ EventExists → WasOpenedClean what
       → (db : Database) × HasAnEvent image db × RecoversSuch (λ trees. trees ≡ db.trees) what
   pub stays : (first : Point) (ends : List Ended) (last : Placed) → RecoversHistory image first ends last
@@ -66,7 +66,7 @@ pub record HasMadeNone {D : Type 0} {g : disk.Ghosts D} (image : Image) (new : P
       → (old : Database) × (old.trees ≡ db) × IsDatabase old
       × RecoversSuch (Either (λ trees. trees ≡ db) (IsStoredBeside 2 new.event old)) what
 
--- An event was made, and its file put away: where no foreign key waited for its tables this begins the empty history, with which the next
+-- An event was made, and its file put away: if no foreign key waited for its tables this begins the empty history, with which the next
 -- command line goes on. Or it was not. What may not be set up so is refused, and no file is given back.
 abbrev pub MakesEvent : {D : Type 0} (g : disk.Ghosts D) → Image → List ℕ → ℕ → ℕ → Told → Remains D g → Type 0
 MakesEvent {D} g image name rounds cut told what =

@@ -26,7 +26,7 @@ use Rattle.er_cli.specs.Tasks.{Work}
 use Rattle.er_cli.specs.Tasks.Work.{Commands, Migration}
 use Rattle.er_cli.specs.declared.remains.Remains.{Remains}
 
--- The version of the tables that are left. A migration leads to version 2, and where it was cut off it may have done so or not. Nothing
+-- The version of the tables that are left. A migration leads to version 2, and if it was cut off it may have done so or not. Nothing
 -- else changes it, and nothing leads back.
 abbrev pub LeadsToVersion : Question → Told → (was now : ℕ) → Type 0
 LeadsToVersion Migrate (Accepted receipt) was now = now ≡ 2
@@ -40,15 +40,15 @@ pub record MayMoveTables (image : Image) (point : Point) : Type 0 where
   pub unawaited : (schema : Schema) → IsSound schema db → RepresentsIn 1 (record { schema = schema; trees = db }) point.event point.serial
       → NoneAwaitsPlayer2 schema
 
--- The file was opened, this was asked of its event, and it was closed, or could not be. A migration asks no command of it; this is said of
--- one where the tables may be moved.
+-- The file was opened, this was asked of its event, and it was closed, or could not be. A migration asks no command of it; of one this is
+-- said if the tables may be moved.
 abbrev pub GoesOnBy : {D : Type 0} (d : disk.Ghosts D) → Image → Point → List Ended → Placed → Work → Remains D d → Type 0
 GoesOnBy d image new ends first (Commands session) what = GoesTo d (λ version. version ≡ first.version) new ends session what
 GoesOnBy d image new ends first (Migration told) what =
     MayMoveTables image first.point → GoesTo d (LeadsToVersion Migrate told first.version) new ends no_session what
 
--- An event was to be made where a history is. None was: it is refused that there is one, or for what was asked, or memory or the device fails.
--- Nothing was asked, and what is left is what the history left.
+-- An event was to be made where there is a history. None was: it is refused since there is one, or for what was asked, or memory or the
+-- device fails. Nothing was asked, and what is left is what the history left.
 pub record MakesNoOther {D : Type 0} (d : disk.Ghosts D) (new : Point) (ends : List Ended) (first : Placed) (told : Told)
     (what : Remains D d) : Type 0 where
   -- if it was opened, then on a clean disk

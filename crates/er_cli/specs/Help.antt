@@ -1,4 +1,4 @@
--- What the words of a command line are answered.
+-- The answer to the words of a command line.
 use Rattle.std.specs.Prelude.{◌≡◌, ◌⊎◌, ℕ, ◌&&◌, ◌||◌, Bool, false, if◌then◌else◌, List, [], ◌∷◌, Option, Some, None, is_some}
 use Rattle.std.specs.Prelude.{option_and_then, codes}
 use Rattle.std.specs.Str.{bytes_eq}
@@ -53,7 +53,7 @@ text_in (known ∷ texts) name = if bytes_eq name known.0 then Some known.1 else
 abbrev pub subcommand_text : List ℕ → Option (List ℕ)
 subcommand_text = text_in help_texts
 
--- the text that the words ask for: an option alone, or behind a subcommand
+-- the text that the words ask for: an option by itself, or after a subcommand
 abbrev pub text_for : List (List ℕ) → Option (List ℕ)
 text_for (word ∷ []) = option_text HELP.now word
 text_for (name ∷ word ∷ []) = option_and_then (λ help. option_text help word) (subcommand_text name)
@@ -91,7 +91,7 @@ pub record Printed : Type 0 where
 abbrev pub prints : (out out_then err err_then : Option (List ℕ)) → ℕ → Printed
 prints out out_then err err_then status = record { out = stream out out_then; err = stream err err_then; status = status }
 
--- The text goes to a stream, with the status that is due. Where a write fails, a beginning of the text is there, and the status
+-- The text goes to a stream, with the status that is due. If a write fails, a beginning of the text is there, and the status
 -- is the device's.
 abbrev pub PutsText : List ℕ → ℕ → Stream → ℕ → Type 0
 PutsText text due stream status =

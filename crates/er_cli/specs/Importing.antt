@@ -84,7 +84,7 @@ module _ (p : Printed) where
       × ((additions : Additions) × (stop : Option Refusal) × Enrols (map (λ line. line.name) lines) old additions stop session new
       × PrintsAdditions additions stop p))
 
-  -- The list can't be read, or memory runs out for it, or it is taken. Nobody is enrolled but by the last. Where it is known what the list
+  -- The list can't be read, or memory runs out for it, or it is taken. Nobody is enrolled but by the last. If it is known what the list
   -- holds, that is taken.
   abbrev pub Imports : Option (List ℕ) → DeskState → Session → DeskState → Type 0
   Imports known old session new =

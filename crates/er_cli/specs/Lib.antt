@@ -4,14 +4,14 @@
 -- A command line has two halves. The first is what is told: words, an event and text, and no file. Action is what a line has done, Setup
 -- what an event is set up with, and Tasks what is done with one that was opened; Importing is a list of players, Again one that is imported
 -- again, Serving the clients of a listener. Help is what asks for a text, and where an answer goes, Texts what a writer holds then, and
--- Complaints what a person is told of words that are no line. Script and Input are a script and its lines, Status how it ends.
+-- Complaints what a person is told of words that aren't a line. Script and Input are a script and its lines, Status how it ends.
 --
 -- The second is what the file becomes, with no text. Remains is what is left of it, Files what a line does to a file that may hold
 -- anything, GoingOn to one that a history left, and Next how the next line finds it. Words joins the halves. Sessions are many command
 -- lines over the same two files, in one call, and Clients are those whom a listener serves. Stopped is what a stop at any instant has to
 -- do with what a disk may leave at an exit.
 --
--- What private functions alone cite lies in `inside`.
+-- What only private functions cite lies in `inside`.
 --
 -- Which contract carries it; docs/PROOF.md has the theorem and the chain below it:
 --   `run_on`, clause `goes_on` (`GoesOnWords`): the theorem, of files that a history left. Clause `ends` (`EndsWords`): what one command

@@ -18,7 +18,7 @@ use Rattle.er_cli.specs.Remains.{ListsByNumber}
 use Rattle.er_cli.specs.declared.remains.Remains.{Remains}
 use Rattle.er_cli.specs.declared.remains.Remains.TheVariants as left
 
--- in these two files, with the log and without it, the next command line finds the history with this session behind it
+-- in these two files, with the log and without it, the next command line finds the history with this session after it
 pub record FindsNext (new : Point) (ends : List Ended) (session : Session) (last : Placed) (image : Image) : Type 0 where
   pub both : RecoversHistory image new (and_then ends session last.point) last
   pub alone : RecoversHistory (record image { log = [] }) new (and_then ends session last.point) last
@@ -43,7 +43,7 @@ pub record KeepsNext {D : Type 0} (d : disk.Ghosts D) (In : ℕ → Type 0) (new
   pub left : IsTrue (view store).is_numbered → (image : Image) → outcomes d (store_files store).0 (store_files store).1 image
       → ∥ RecoversIn In new ends session image ∥₁
 
--- What is left of a file in which a session was asked: on a clean disk the next command line finds the history with the session behind it,
+-- What is left of a file in which a session was asked: on a clean disk the next command line finds the history with the session after it,
 -- in tables of one of these versions.
 abbrev pub RecoversSession : {D : Type 0} (d : disk.Ghosts D) → (ℕ → Type 0) → Point → List Ended → Session → Remains D d → Type 0
 RecoversSession d In new ends session left.Nothing = Unit {0}
@@ -59,10 +59,10 @@ WasOpened (left.Closed files) = Unit {0}
 WasOpened (left.Unclosed store) = Unit {0}
 WasOpened (left.Unopened rest) = ⊥
 
--- A file was opened and put away. On a clean disk the next command line finds the history with this session behind it.
+-- A file was opened and put away. On a clean disk the next command line finds the history with this session after it.
 pub record GoesTo {D : Type 0} (d : disk.Ghosts D) (In : ℕ → Type 0) (new : Point) (ends : List Ended) (session : Session)
     (what : Remains D d) : Type 0 where
   pub put_away : WasOpened what
   pub leaves : RecoversSession d In new ends session what
-  -- where a command is in doubt, a store that was not closed lists its tables by number
+  -- if a command is in doubt, a store that was not closed lists its tables by number
   pub spared : (session.in_doubt ≡ None → ⊥) → ListsByNumber what

@@ -58,14 +58,14 @@ module _ {D : Type 0} {d : disk.Ghosts D} where
   WasOpenedClean (left.Unclosed store) = IsClean (view store)
   WasOpenedClean (left.Unopened rest) = ⊥
 
-  -- Where no file was opened, why. `Spares` is what the storage crate says of what is left then.
+  -- If no file was opened, why. `Spares` is what the storage crate says of what is left then.
   abbrev pub IfUnopened : (Error → Option (Leftover D d) → Type 0) → Refusal → Remains D d → Type 0
   IfUnopened Spares why left.Nothing = (error : Error) × (why ≡ store_refusal error) × IsFault why × Spares error None
   IfUnopened Spares why (left.Closed files) = Unit {0}
   IfUnopened Spares why (left.Unclosed store) = Unit {0}
   IfUnopened Spares why (left.Unopened rest) = (error : Error) × (why ≡ store_refusal error) × IsFault why × Spares error (Some rest)
 
-  -- where they were not closed, a crash leaves nothing that it could not leave before
+  -- if they were not closed, a crash leaves nothing that it could not leave before
   pub record KeepsAll (s : State) (store : FileStore D d) : Type 0 where
     pub was_clean : IsClean (view store) → HasCleanDisk s
     pub as_before : (trees : Trees) → recovers store trees → s.may_leave trees

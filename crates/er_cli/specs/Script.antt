@@ -1,4 +1,4 @@
--- What the lines of a script are answered.
+-- The answers to the lines of a script.
 use Rattle.std.specs.Prelude.{◌≡◌, ◌⊎◌, ⊤, ℕ, List, [], ◌∷◌, take, flat_map, Option, Some, None, MatchOption, is_some}
 use Rattle.std.specs.Io.KnownBytes.{Appends}
 use Rattle.er_event.specs.declared.refusals.Refusal.{Refusal}
@@ -25,15 +25,15 @@ CreatesEvent old name rounds cut told new =
     ((told ≡ Accepted (record { serial = 0 })) × (new ≡ Some (running_at (new_point name rounds cut) 2)))
     ⊎ ((why : Refusal) × IsFault why × (told ≡ Refused why) × (new ≡ old))
 
--- what setting up an event is answered
+-- the answer to setting up an event
 abbrev pub SetsUp : Option DeskState → List ℕ → ℕ → ℕ → Told → Option DeskState → Type 0
 SetsUp old name rounds cut told new =
     MatchOption (first_refusal (init_checks (is_some old) name rounds cut))
     (CreatesEvent old name rounds cut told new)
     (λ why. ((told ≡ Refused why) ⊎ (told ≡ Refused Memory)) × (new ≡ old))
 
--- What an action is answered, and the desk's state then. The tables in memory represent its event. All but `init`
--- want an event. A script imports no list, and serves no clients.
+-- The answer to an action, and the desk's state then. The tables in memory represent its event. All but `init`
+-- need an event. A script imports no list, and serves no clients.
 abbrev pub Acts : Option DeskState → Action → LineAnswer → Option DeskState → Type 0
 Acts old (Init name rounds cut) answer new = (told : Told) × SetsUp old name rounds cut told new × (answer ≡ Asked told)
 Acts old (Open (Import list)) answer new = (answer ≡ Usage) × (new ≡ old)
@@ -42,7 +42,7 @@ Acts (Some old) (Open (Ask question)) answer new =
     (told : Told) × (next : DeskState) × AnswersDesk ⊤ old question told next × (answer ≡ Asked told) × (new ≡ Some next)
 Acts old (Open (Serve port count)) answer new = (answer ≡ Usage) × (new ≡ old)
 
--- What a line is answered. Memory may run out as it is read.
+-- The answer to a line. Memory may run out as it is read.
 abbrev pub LineAnswers : Option DeskState → Option Action → LineAnswer → Option DeskState → Type 0
 LineAnswers old None answer new = ((answer ≡ Usage) ⊎ (answer ≡ Asked (Refused Memory))) × (new ≡ old)
 LineAnswers old (Some action) answer new = Acts old action answer new ⊎ ((answer ≡ Asked (Refused Memory)) × (new ≡ old))
@@ -62,7 +62,7 @@ pub record Prints (lines : List (List ℕ)) (before after : Option (List ℕ)) :
   pub runs : RunsLines None lines answers last
   pub printed : Appends before after (flat_map answer_text answers)
 
--- what a writer holds where a write failed: the answers to the first lines, of which the last may be cut
+-- what a writer holds if a write failed: the answers to the first lines, of which the last may be cut
 pub record PrintsPart (lines : List (List ℕ)) (before after : Option (List ℕ)) : Type 0 where
   pub count : ℕ
   pub answers : List LineAnswer

@@ -42,7 +42,7 @@ SendsNext (Some inputs) sent then =
 abbrev pub ConnectsNext : (coming then : Option (List (List ℕ))) → DeskState → Session → DeskState → Type 0
 ConnectsNext coming then old session new = (sent : Option (List ℕ)) × SendsNext coming sent then × Connects sent old session new
 
--- so many connections, one after the other
+-- `count` connections, one after the other
 abbrev pub ConnectsAll : ℕ → (coming then : Option (List (List ℕ))) → DeskState → Session → DeskState → Type 0
 ConnectsAll zero coming then old session new = (then ≡ coming) × (new ≡ old) × (session ≡ no_session)
 ConnectsAll (suc count) coming then old session new =

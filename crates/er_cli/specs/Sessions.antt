@@ -42,12 +42,12 @@ module _ {D : Type 0} {d : disk.Ghosts D} where
   IsClosedOrKept s (Ok files) = AreClean d files.log files.db → AreCut d s files
   IsClosedOrKept s (Err what) = RemainsOf s what
 
-  -- where a file was opened, and its disk is clean
+  -- if a file was opened, and its disk is clean
   abbrev pub IfCleanFiles : Type 0 → Result (Files D) (Remains D d) → Type 0
   IfCleanFiles Is (Ok files) = AreClean d files.log files.db → Is
   IfCleanFiles Is (Err what) = WasOpenedClean what → Is
 
--- On a clean disk each pair of bytes that a crash may leave was left by the history with this session behind it, in one of these versions.
+-- On a clean disk each pair of bytes that a crash may leave was left by the history with this session after it, in one of these versions.
 abbrev pub RecoversAfterSession : {D : Type 0} (d : disk.Ghosts D) → (ℕ → Type 0) → Point → List Ended → Session
     → Result (Files D) (Remains D d)
     → Type 0
@@ -77,7 +77,7 @@ AsksAll {S} g old (question ∷ questions) (told ∷ answers) new =
 AsksAll g old [] (told ∷ answers) new = ⊥
 AsksAll g old (question ∷ questions) [] new = ⊥
 
--- What a desk answers whose tables represent its event, and the session that the requests are together: each is answered on the event
+-- What a desk whose tables represent its event answers, and the session that the requests are together: each is answered on the event
 -- that those before it left.
 abbrev pub AnswersAll : DeskState → List Question → List Told → Session → DeskState → Type 0
 AnswersAll old [] [] session new = (session ≡ no_session) × (new ≡ old)
@@ -95,7 +95,7 @@ LeadToVersion (question ∷ questions) (told ∷ answers) was now =
 LeadToVersion [] (told ∷ answers) was now = ⊥
 LeadToVersion (question ∷ questions) [] was now = ⊥
 
--- where nothing was asked, the version stays
+-- if nothing was asked, the version stays
 abbrev pub VersionAfter : List Question → Result (Vec Told Global) Refusal → (was now : ℕ) → Type 0
 VersionAfter questions (Ok answers) was now = LeadToVersion questions answers.items was now
 VersionAfter questions (Err why) was now = now ≡ was
@@ -126,7 +126,7 @@ pub record HoldsNext {D : Type 0} (d : disk.Ghosts D) (new : Point) (ends : List
   pub unopened : MatchResult now (λ _. Unit {0})
       (λ what. MatchResult answers (λ _. WasOpened what) (λ why. IfUnopened (SparesFiles files) why what))
 
--- where a migration is among the requests, the file's tables may be migrated
+-- if a migration is among the requests, the file's tables may be migrated
 abbrev pub MayMoveFor : Image → Placed → List Question → Type 0
 MayMoveFor image first questions = AsksMigration questions → MayMoveTables image first.point
 

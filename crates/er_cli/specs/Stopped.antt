@@ -19,7 +19,7 @@ LeavesAfter mixes start calls left =
     let file = replay start calls in MayLeave mixes file.seen file.synced file.steps left
 
 -- One run did this call on a file. In another that call and all later ones failed, and the earlier ones answered the same. What a crash
--- could leave in the first run, before that call or behind it, it may leave at the end of the second.
+-- could leave in the first run, before that call or after it, it may leave at the end of the second.
 abbrev pub StopsAreExits : Type 0
 StopsAreExits = (mixes : Bool) (start : List ℕ) (before : List Event) (call : Event) (count : ℕ) (failed : List Event)
     → AllByRecursion HasFailed failed → (left : List ℕ)

@@ -44,11 +44,11 @@ DoesTask world got Represented old (Serve port count) work new p =
 
 -- One question, and its answer. `Sure` is that the disk is clean, without which no answer is due.
 pub record AnswersQuestion (Sure : Type 0) (first : Placed) (question : Question) (told : Told) (work : Work) : Type 0 where
-  -- whether a fault of the store is behind
+  -- whether the store has had a fault
   pub needs_reopen : Bool
   pub asked : work ≡ work_of question told needs_reopen
   pub lawful : Sure → IsAnswerAt first.version first.point question told
-  -- Acknowledged is kept: where `ok` and a serial were answered, the session is this command, and nothing is in doubt.
+  -- Acknowledged is kept: if `ok` and a serial were answered, the session is this command, and nothing is in doubt.
   pub acknowledged : (command : Command) (receipt : Receipt) → question ≡ Submit command → told ≡ Accepted receipt
       → work ≡ Commands (record { acknowledged = command ∷ []; in_doubt = None })
   -- Only a fault of the store leaves a doubt.

@@ -15,7 +15,7 @@ told_text (Text text) = text
 told_text (Slip text) = text
 told_text (Refused why) = codes "refused " ++ (decimal (entry_of why).0 ++ (32 ∷ ((entry_of why).1 ++ (10 ∷ []))))
 
--- what a line of a script is answered; `usage` where it is none
+-- the answer to a line of a script; `usage` if it isn't one
 abbrev pub answer_text : LineAnswer → List ℕ
 answer_text (Asked told) = told_text told
 answer_text Usage = codes "usage" ++ (10 ∷ [])

@@ -61,9 +61,9 @@ pub record EndsWords {D : Type 0} (g : disk.Ghosts D) (world : World) (got : Opt
     (p : Printed) : Type 0 where
   -- A text that the words ask for goes to the output, and no file is given back.
   pub asked : IfSome (text_for words) (λ text. (what ≡ Nothing) × Says text DONE p.out p.err p.status)
-  -- Of what asks for no text and is no command line, the errors get what is wrong with it, and the output stays as it is.
+  -- If the words ask for no text and aren't a command line, the errors get what is wrong with them, and the output stays as it is.
   pub unread : IsFalse (asks_text words) → line_of words ≡ None → (what ≡ Nothing) × EndsAsUsage words p
-  -- What is one is answered as the event of the file has it, with the status of that answer. Memory may run out as it is read.
+  -- A command line is answered as the event of the file has it, with the status of that answer. Memory may run out as it is read.
   pub answered : IfSome (line_of words)
       (λ line. EndsLine g world got (file_of line) what p (action_of line) ⊎ ((what ≡ Nothing) × Tells (Refused Memory) p))
 

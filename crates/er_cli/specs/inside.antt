@@ -1,4 +1,4 @@
--- What private functions alone cite.
+-- What only private functions cite.
 pub mod Input
 pub mod Unread
 pub mod Desk

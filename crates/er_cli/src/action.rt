@@ -27,7 +27,7 @@ pub enum Task {
     Ask { question: Question },
     /// The names of a list are enrolled.
     Import { list: FilePath },
-    /// Clients ask it, over so many connections.
+    /// Clients ask it, over `count` connections.
     Serve { port: u16, count: u32 },
 }
 

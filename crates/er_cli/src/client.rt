@@ -12,7 +12,7 @@ const WRITE_SECONDS: u64 = 10;
 const REQUEST_SECONDS: u64 = 5;
 /// How long it may take in all.
 const CLIENT_SECONDS: u64 = 30;
-/// How long what it sends is read on after its answer.
+/// How long what it sends is still read after its answer.
 const REST_MILLISECONDS: u64 = 500;
 /// How many bytes of it: four megabytes.
 const REST_BYTES: usize = 4_194_304;
@@ -54,7 +54,7 @@ impl Client<'_> {
         }
     }
 
-    /// How long the next call may take: so many seconds, or what is left of all.
+    /// How long the next call may take: `seconds`, or what is left of all.
     fn time_for(&self, seconds: u64) -> io::Result<Duration> {
         let taken = self.begun.elapsed(self.rt)?;
         match Duration::from_secs(self.limit).checked_sub(taken) {

@@ -110,7 +110,7 @@ impl<R: Read + Drop, W: Write + Drop> Visit<R, W> {
         }
     }
 
-    /// Whether its connection tells the same of how it was served: where that broke off, a call of it has failed.
+    /// Whether its connection tells the same of how it was served: if that broke off, a call of it has failed.
     pub fn tells(&self, served: Served) -> bool
         ensures { result ≡ tells self.now.reader.has_failed self.now.writer.has_failed served }
     {
@@ -122,16 +122,16 @@ impl<R: Read + Drop, W: Write + Drop> Visit<R, W> {
     }
 }
 
-/// Where clients come from, one after the other. Where it is known what they send, it is known what they got.
+/// Where clients come from, one after the other. If it is known what they send, it is known what they got.
 pub trait Clients {
     type Reader: Read + Drop;
 
     type Writer: Write + Drop;
 
-    /// What those will send who are still to come, in their order.
+    /// What those who are still to come will send, in their order.
     ghost coming: { Self → Option (List (List ℕ)) } = { λ _. None };
 
-    /// What those got who went away, in their order.
+    /// What those who went away got, in their order.
     ghost got: { Self → Option (List Got) } = { λ _. None };
 
     /// Takes the next client. If its connection can't be had, there is none.

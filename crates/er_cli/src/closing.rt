@@ -28,7 +28,7 @@ const EMPTY_LOG: usize = 32 + 24;
 #[derive(Drop)]
 pub struct NewLog {
     path: String,
-    /// The file is not there, or is empty. Where it is not opened then, its log may be what tells how far the new database has got.
+    /// The file is not there, or is empty. If it is not opened then, its log may be what tells how far the new database has got.
     is_beside_nothing: bool,
 }
 
@@ -59,7 +59,7 @@ fn copy_log<D: Disk + Drop>(conn: Connection<FileStore<D>>) -> Result<FileStore<
 }
 
 /// Makes an empty log so long that it counts as one. The next opening reads the log twice: it keeps the header of one that counts, and to
-/// any other it writes a new header each time, with three syncs more. Where this fails the log is still empty.
+/// any other it writes a new header each time, with three syncs more. If this fails the log is still empty.
 fn lengthen<D: Disk>(log: &mut D)
     requires { IsTrue (D.Disk.is_usable log.old) }
     ensures clean { IsClean D.Disk log.new → IsClean D.Disk log.old }
@@ -68,7 +68,7 @@ fn lengthen<D: Disk>(log: &mut D)
     let _ = log.set_len(EMPTY_LOG);
 }
 
-/// Closes a connection to a file: copies the log into the database file. Where that fails, the log keeps what it has.
+/// Closes a connection to a file: copies the log into the database file. If that fails, the log keeps what it has.
 pub fn close<D: Disk + Drop>(conn: Connection<FileStore<D>>) -> Remains<D>
     ensures { RemainsOf (file_state conn) result }
 {
@@ -120,14 +120,14 @@ fn is_nothing(rt: &HostRuntime, path: &str) -> bool {
     }
 }
 
-/// A log that is there already is none of this run's.
+/// A log that is there already isn't one of this run's.
 fn unless_there(is_there: bool, log: NewLog) -> Option<NewLog>
     ensures { result ≡ (if is_there then None else Some log) }
 {
     if is_there { None } else { Some(log) }
 }
 
-/// The log that a run will make beside a file. None where one is there already, or where that can't be told.
+/// The log that a run will make beside a file. None if one is there already, or if that can't be told.
 pub fn log_to_make(rt: &HostRuntime, path: &str) -> Option<NewLog> {
     let log = NewLog {
         path: log_path(rt, path)?,
@@ -146,7 +146,7 @@ fn holds_nothing(size: u64) -> bool
     size < LEAST_LOG
 }
 
-/// Removes a log that this run made, where nothing is in it. Whoever calls still holds the file, so that nobody else writes the log.
+/// Removes a log that this run made, if nothing is in it. Whoever calls still holds the file, so that nobody else writes the log.
 pub fn remove_empty(rt: &HostRuntime, log: &NewLog) {
     match fs::metadata(rt, log.path.as_str()) {
         Ok(found) if holds_nothing(found.len()) => {
@@ -175,7 +175,7 @@ fn clear_refused<H: Host>(
     left
 }
 
-/// The same where the file was not opened. Where nothing is left of it, it isn't held, and no log is removed; nor is that of a new
+/// The same if the file was not opened. If nothing is left of it, it isn't held, and no log is removed; nor is that of a new
 /// database.
 fn clear_unopened<H: Host>(
     host: &mut H,

@@ -7,13 +7,13 @@ use crate::help::subcommand_text;
 use er_words::UsageFault;
 use std::alloc::{AllocError, Global};
 
-/// Where to look where the first word is no subcommand.
+/// Where to look if the first word isn't a subcommand.
 pub const TRY_HELP: &str = "\
 usage: event_reporter SUBCOMMAND FILE WORDS
 Try: event_reporter --help
 ";
 
-/// Words that are no text come here as none.
+/// Words that aren't text come here as none.
 pub const NO_TEXT: &str = "\
 event_reporter: the words are no UTF-8 text
 Try: event_reporter --help
@@ -63,7 +63,7 @@ fn advice(name: &str) -> &'static str
     }
 }
 
-/// Names the word at fault, where there is one, and says what is wrong and how to go on.
+/// Names the word at fault, if there is one, and says what is wrong and how to go on.
 fn complaint_with(
     alloc: Global,
     words: &[String],

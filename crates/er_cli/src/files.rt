@@ -55,7 +55,7 @@ fn find_file<H: Host>(host: &H, path: &str) -> Result<(), Refusal>
     }
 }
 
-/// Makes an event in a file, which is made where it isn't there.
+/// Makes an event in a file, which is made if it isn't there.
 fn create<H: Host>(
     alloc: Global,
     host: &mut H,
@@ -70,7 +70,7 @@ fn create<H: Host>(
         (λ it. HasMadeNone ((H.world host.old).image path.now)
         (new_point name rounds cut) it.why it.left) }
 {
-    // Where a history is, what a refusal leaves is its end: this tells the proof.
+    // If there is a history, what a refusal leaves is its end: this tells the proof.
     next_sessions();
     let log = host.log_to_make(path);
     match create_desk(alloc, host, path, name, rounds, cut) {
@@ -146,7 +146,7 @@ fn make<H: Host, O: Print, E: Print>(
     }
 }
 
-/// Serves the clients of a desk, on this machine alone.
+/// Serves the clients of a desk, on this machine only.
 fn listen<H: Host, S: Alter, O: Print, E: Print>(
     alloc: Global,
     host: &mut H,
@@ -161,7 +161,7 @@ fn listen<H: Host, S: Alter, O: Print, E: Print>(
         (prints (O.printed out.old) (O.printed out.new) (E.printed err.old) (E.printed err.new) result)
         port count ((H.world host.old).coming port) (H.got host.new)) desk.new }
 {
-    // Where nobody is listened to, nothing is asked of the file: this tells the proof.
+    // If nobody is listened to, nothing is asked of the file: this tells the proof.
     desk.asks_nothing();
     let Ok(routes) = Routes::new(alloc) else {
         return print(out, err, &Told::Refused(Refusal::Memory));
@@ -222,7 +222,7 @@ fn do_and_close<H: Host, O: Print, E: Print>(
     }
 }
 
-/// Tells why there is no desk over a file, and gives back what is left of that.
+/// Tells why there is no desk, and gives back what is left of a file, if anything is.
 fn tell_no_desk<D: Disk + Drop, O: Print, E: Print>(
     out: &mut O,
     err: &mut E,

@@ -4,7 +4,7 @@ ghost use Rattle.er_cli.specs.Help.{option_text, subcommand_text, text_for};
 /// What `--version` prints.
 pub const VERSION: &str = "event_reporter 0.1.0\n";
 
-/// What `--help` prints, and what standard error gets where the first word is no subcommand.
+/// What `--help` prints, and what standard error gets if the first word isn't a subcommand.
 pub const HELP: &str = "\
 usage: event_reporter SUBCOMMAND FILE WORDS
        event_reporter < SCRIPT
@@ -311,13 +311,13 @@ Refuses: 24 Memory, 25 Store, 27 NoEvent, 29 Damaged. 25 also comes if FILE has
 a table player2 that is not the event's; then nothing changes.
 ";
 
-/// What a person is told where the port can't be had.
+/// What a person is told if the port can't be had.
 pub const CANNOT_LISTEN: &str = "\
 event_reporter: cannot listen on this port: another program may use it, or it is
 below 1024. Try port 0, which takes any that is free.
 ";
 
-/// What a terminal is told where there are no words, since a prompt that says nothing looks as if it hung.
+/// What a terminal is told if there are no words, since a prompt that says nothing looks as if it hung.
 pub const AWAITING: &str = "\
 event_reporter: no words were given, so it reads a script from this terminal:
 one command per line, the words separated by one TAB. Ctrl-D ends the script,
@@ -361,7 +361,7 @@ pub fn subcommand_text(name: &str) -> Option<&'static str>
     }
 }
 
-/// The text that the words ask for: an option alone, or behind a subcommand.
+/// The text that the words ask for: an option by itself, or after a subcommand.
 pub fn text_for(words: &[String]) -> Option<&'static str>
     ensures { option_map (λ text. text.now) result ≡ text_for (map string_bytes words.now) }
 {

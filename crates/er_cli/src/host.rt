@@ -30,7 +30,7 @@ pub trait Host {
     /// What is there.
     ghost world: { Self → World };
 
-    /// What those got who came, in their order, if that is known.
+    /// What those who came got, in their order, if that is known.
     ghost got: { Self → Option (List Got) };
 
     /// No file of an event was opened yet. One is, at most.
@@ -40,7 +40,7 @@ pub trait Host {
     fn is_there(&self, path: &str) -> io::Result<bool>
         ensures { IfOk result (λ is_there. IfSome ((world self.now).is_there path.now) (λ known. is_there ≡ known)) };
 
-    /// The log that an opening will make beside a file. None where one is there already, or where that can't be told.
+    /// The log that an opening will make beside a file. None if one is there already, or if that can't be told.
     fn log_to_make(&self, path: &str) -> Option<NewLog>;
 
     /// Opens the file of an event, or makes it.
@@ -54,7 +54,7 @@ pub trait Host {
     fn open_list(&self, path: &str) -> io::Result<Self::List>
         ensures { IfOk result (λ list. Self.List.remaining list ≡ (world self.now).list path.now) };
 
-    /// Listens at a port of this machine alone, or at one that is free, and says which.
+    /// Listens at a port of this machine only, or at one that is free, and says which.
     fn listen(&mut self, port: u16) -> io::Result<(Self::Visitors, u16)>
         ensures range { IfOk result (λ it. it.1 ≤ 65535) }
         ensures port { IfOk result (λ it. (port ≡ 0) ⊎ (it.1 ≡ port)) }

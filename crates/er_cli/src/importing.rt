@@ -140,7 +140,7 @@ fn enrol_all<S: Alter>(alloc: Global, desk: &mut Desk<S>, lines: &[PlayerLine]) 
     }
 }
 
-/// Prints how many were enrolled, and the refusal that ended it, where there is one.
+/// Prints how many were enrolled, and the refusal that ended it, if there is one.
 fn print_additions<O: Print, E: Print>(out: &mut O, err: &mut E, enrolled: Enrolled) -> u8
     ensures { PrintsAdditions enrolled.additions enrolled.stop
         (prints (O.printed out.old) (O.printed out.new)
@@ -168,7 +168,7 @@ fn import_list<S: Alter, O: Print, E: Print>(
         (ImportsList (prints (O.printed out.old) (O.printed out.new)
         (E.printed err.old) (E.printed err.new) result) list.now) desk.new }
 {
-    // Where nobody is enrolled, nothing is asked of the file: this tells the proof.
+    // If nobody is enrolled, nothing is asked of the file: this tells the proof.
     desk.asks_nothing();
     match read_players_csv(alloc, list) {
         Ok(lines) => {
@@ -193,7 +193,7 @@ pub fn import<H: Host, S: Alter, O: Print, E: Print>(
     ensures { AsksSome S.Store desk.old (Imports (prints (O.printed out.old) (O.printed out.new)
         (E.printed err.old) (E.printed err.new) result) ((H.world host.now).list path.now)) desk.new }
 {
-    // Where nobody is enrolled, nothing is asked of the file: this tells the proof.
+    // If nobody is enrolled, nothing is asked of the file: this tells the proof.
     desk.asks_nothing();
     match read_list(alloc, host, path) {
         Ok(list) => import_list(alloc, desk, &list, out, err),

@@ -44,7 +44,7 @@ fn fill<R: Read>(reader: &mut R, buf: &mut [u8]) -> io::Result<usize>
     Ok(filled)
 }
 
-/// Room for so many bytes and one more, by which an input that is too long shows.
+/// Room for `most` bytes and one more, which shows that an input is too long.
 fn room(alloc: Global, most: usize) -> Result<Vec<u8>, AllocError>
     requires { most < 2 ^ 32 }
     ensures { IfOk result (λ room. vec_len room ≡ most + 1) }
@@ -52,7 +52,7 @@ fn room(alloc: Global, most: usize) -> Result<Vec<u8>, AllocError>
     vec![in alloc; 0; most + 1]
 }
 
-/// Reads a whole input of at most so many bytes. Its memory is taken before the first read, so that no read fails for want of it.
+/// Reads a whole input of at most `most` bytes. Its memory is taken before the first read, so that no read runs out of it.
 pub fn read_whole<R: Read>(
     alloc: Global,
     reader: &mut R,

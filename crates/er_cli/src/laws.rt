@@ -1,4 +1,4 @@
-//! Laws of command lines, over the definitions alone. A law is a function with no code of its own, whose contract is the law.
+//! Laws of command lines, stated over the definitions only. A law is a function with no code of its own, whose contract is the law.
 
 ghost use Rattle.std.specs.Prelude.{◌≡◌, ℕ, List, IsTrue, None, is_some};
 ghost use Rattle.er_words.specs.Line.{line_of};
@@ -16,12 +16,12 @@ pub fn imports_again()
     names_stay();
 }
 
-/// What a crash may leave of a file at any instant it may leave at the exit of a run in which each call from there on fails.
+/// What a crash may leave of a file at any instant, it may also leave at the exit of a run in which each call from there on fails.
 pub fn stops_are_exits()
     ensures { StopsAreExits }
 {}
 
-/// Words ask for a text exactly where there is one for them, and no such words are a line.
+/// Words ask for a text exactly if there is one for them, and no such words are a line.
 pub fn texts_are_asked()
     ensures exactly { (words : List (List ℕ)) → asks_text words ≡ is_some (text_for words) }
     ensures no_line { (words : List (List ℕ)) → IsTrue (asks_text words) → line_of words ≡ None }

@@ -55,11 +55,11 @@ use std::io::{Read, Write};
 pub use texts::{Print, WriteFault};
 use texts::{LineAnswer, print_answer, print_told};
 
-/// It was done; of a script, to its end, whatever its lines were answered.
+/// It was done; of a script, to its end, whatever the answers to its lines.
 const DONE: u8 = 0;
 /// The command was refused.
 const REFUSED: u8 = 1;
-/// The words are no command line, or the script is too long. Nothing was run.
+/// The words aren't a command line, or the script is too long. Nothing was run.
 const USAGE: u8 = 2;
 /// A read or a write failed, or the store of the event.
 const DEVICE: u8 = 3;
@@ -105,7 +105,7 @@ fn answer_script<R: Read, W: Print>(
     Ok(DONE)
 }
 
-/// Runs a script on one event in memory, prints the answer to each line, and gives the status to end with. Each answer is one write, where
+/// Runs a script on one event in memory, prints the answer to each line, and gives the status to end with. Each answer is one write, if
 /// the writer takes it whole, and a flush.
 pub fn run_script<R: Read, W: Write>(rt: &HostRuntime, reader: &mut R, writer: &mut W) -> u8
     ensures { EndsScript (R.remaining reader.old) (W.contents writer.old) (W.contents writer.new) result }
@@ -241,7 +241,7 @@ pub fn run_on<H: Host, O: Print, E: Print>(
     }
 }
 
-/// Prints on a terminal that a script is awaited. Where that fails, the script is awaited all the same.
+/// Prints on a terminal that a script is awaited. If that fails, the script is awaited all the same.
 pub fn print_awaiting<E: Write>(err: &mut E)
     ensures { Appends (E.contents err.old) (E.contents err.new) AWAITING.now
         ⊎ AppendsPart (E.contents err.old) (E.contents err.new) AWAITING.now }
@@ -249,7 +249,7 @@ pub fn print_awaiting<E: Write>(err: &mut E)
     let _ = err.print(AWAITING.as_bytes());
 }
 
-/// Answers where there was no memory to read the words of the command line, and gives the status to end with.
+/// Answers that there was no memory to read the words of the command line, and gives the status to end with.
 pub fn refuse_memory<W: Write>(writer: &mut W) -> u8
     ensures { PutsText (told_text (Told.Refused Refusal.Memory)) MEMORY (stream (W.contents writer.old) (W.contents writer.new)) result }
 {

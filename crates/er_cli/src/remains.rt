@@ -22,7 +22,7 @@ pub struct Outcome<D: Disk + Drop> {
     pub left: Remains<D>,
 }
 
-/// Why there is no desk over a file, and what is left of that.
+/// Why there is no desk, and what is left of a file, if anything is.
 #[derive(Drop)]
 pub struct OpenError<D: Disk + Drop> {
     pub why: Refusal,

@@ -59,7 +59,7 @@ fn serve_next<S: Alter, C: Clients>(
     if is_told { Ok(()) } else { Err(AcceptFault) }
 }
 
-/// Serves so many clients, one after the other.
+/// Serves `count` clients, one after the other.
 pub fn serve_clients<S: Alter, C: Clients>(
     alloc: Global,
     routes: &Routes,
@@ -85,7 +85,7 @@ pub fn serve_clients<S: Alter, C: Clients>(
     Ok(())
 }
 
-/// Serves so many clients, one after the other, and gives the status to end with: 3 where no client can be had or a print fails. Prints the
+/// Serves `count` clients, one after the other, and gives the status to end with: 3 if no client can be had or a print fails. Prints the
 /// port that they come to, and at the end how many it has served. A client that goes away counts as served.
 pub fn serve_all<S: Alter, C: Clients, W: Print>(
     alloc: Global,
@@ -99,11 +99,11 @@ pub fn serve_all<S: Alter, C: Clients, W: Print>(
     // Each client leaves the desk as it was, has it read its standings or a slip, or hands it one score: these scores are the session.
     ensures turns { AsksSome S.Store desk.old (ServesAll count result (C.coming clients.old)) desk.new }
     ensures printed { PrintsServed port count (stream (W.printed out.old) (W.printed out.new)) result }
-    // Where all are served, each of whom it is known what they send got its answer.
+    // If all are served, each of those of whom it is known what they send got its answer.
     ensures served { result ≡ DONE → ServesKnown S.Store count (C.coming clients.old)
         (C.got clients.old) desk.old (C.coming clients.new) (C.got clients.new) desk.new }
 {
-    // Where nobody is served, nothing is asked of the file: this tells the proof.
+    // If nobody is served, nothing is asked of the file: this tells the proof.
     desk.asks_nothing();
     let Ok(()) = out.print(listening_line(port).as_slice()) else {
         return DEVICE;
@@ -117,7 +117,7 @@ pub fn serve_all<S: Alter, C: Clients, W: Print>(
     }
 }
 
-/// Serves so many clients of a listener, as `serve_all` does. Each has a second for each read, five for its
+/// Serves `count` clients of a listener, as `serve_all` does. Each has a second for each read, five for its
 /// request, ten for each write, and thirty in all: then it counts as served too, and the next one is taken.
 pub fn serve_on<S: Alter, W: Write>(
     rt: &HostRuntime,
@@ -130,7 +130,7 @@ pub fn serve_on<S: Alter, W: Write>(
     ensures turns { AsksSome S.Store desk.old (ServesAll count result None) desk.new }
     ensures printed { PrintsSome 0 count (stream (W.contents out.old) (W.contents out.new)) result }
 {
-    // Where nobody is served, nothing is asked of the file: this tells the proof.
+    // If nobody is served, nothing is asked of the file: this tells the proof.
     desk.asks_nothing();
     let Ok(address) = listener.local_addr() else {
         return DEVICE;

@@ -20,7 +20,7 @@ use sqlite::{Alter, Connection, FileStore, Files, Options};
 use sqlite_disk::{Crash, Disk};
 use std::alloc::{AllocError, Global};
 
-/// A session over the files of an event: what its questions were answered, or why there was none, and the files, which the next session
+/// A session over the files of an event: the answers to its questions, or why there are none, and the files, which the next session
 /// may open. Or they can't be opened, or closed, and what is left of them comes back.
 #[derive(Drop)]
 pub struct SessionEnd<D: Disk + Drop> {
@@ -36,7 +36,7 @@ fn cut<D: Disk + Drop>(conn: Connection<FileStore<D>>) -> Files<D>
     store.close()
 }
 
-/// Closes the files of a connection, or cuts it off where a fault of the store is behind.
+/// Closes the files of a connection, or cuts it off if a fault of the store came before.
 fn let_go<D: Disk + Drop>(
     conn: Connection<FileStore<D>>,
     is_over: bool,
@@ -72,7 +72,7 @@ fn ask_all<S: Alter>(
     Ok(answers)
 }
 
-/// Asks the desk all of it, and gives back its answers, whether a fault of the store is behind, and its connection.
+/// Asks the desk all of it, and gives back its answers, whether the store has had a fault, and its connection.
 fn ask_and_close<S: Alter>(
     alloc: Global,
     mut desk: Desk<S>,
@@ -159,7 +159,7 @@ fn crash<D: Crash + Drop>(files: Files<D>) -> Files<D>
     Files { log, db }
 }
 
-/// Sessions that were held: what the questions of each were answered, and the files after the last. Where it could not open them, or not
+/// Sessions that were held: the answers to the questions of each, and the files after the last. If it could not open them, or not
 /// close them, what is left of them.
 #[derive(Drop)]
 pub struct Sessions<D: Disk + Drop> {
@@ -167,8 +167,8 @@ pub struct Sessions<D: Disk + Drop> {
     pub files: Result<Files<D>, Remains<D>>,
 }
 
-/// Holds sessions over the same files, one after the other, each with a crash behind it: closed, or cut off by a fault of the disk. One
-/// that can't open the files, or can't close them with no fault before, is the last. Where there is no memory for the answers, the files
+/// Holds sessions over the same files, one after the other, each with a crash after it: closed, or cut off by a fault of the disk. One
+/// that can't open the files, or can't close them with no fault before, is the last. If there is no memory for the answers, the files
 /// come back as they are.
 pub fn hold_sessions<D: Crash + Drop>(
     alloc: Global,

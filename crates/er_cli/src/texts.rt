@@ -8,12 +8,12 @@ use er_event::Refusal;
 use er_paper::ShortText;
 use std::io::Write;
 
-/// What a line of a script is answered.
+/// The answer to a line of a script.
 #[derive(Drop)]
 pub enum LineAnswer {
     /// What its desk answers, or that it has none.
     Asked(Told),
-    /// It is no line of a script.
+    /// It isn't a line of a script.
     Usage,
 }
 
@@ -23,10 +23,10 @@ pub struct WriteFault;
 
 /// Where answers go.
 pub trait Print {
-    /// What has gone out, where that is known. What is held back is not printed yet.
+    /// What has gone out, if that is known. What is held back is not printed yet.
     ghost printed: { Self → Option (List ℕ) };
 
-    /// Prints the bytes: they go out, and nothing is held back. Where that fails, a beginning of them has.
+    /// Prints the bytes: they go out, and nothing is held back. If that fails, a beginning of them has.
     fn print(&mut self, bytes: &[u8]) -> Result<(), WriteFault>
         ensures sent { OnOk result (Appends (printed self.old) (printed self.new) bytes.now) }
         ensures part { OnErr result (AppendsPart (printed self.old) (printed self.new) bytes.now) };
@@ -42,7 +42,7 @@ impl<W: Write> Print for W {
     }
 }
 
-/// Writes the bytes, by one call where the writer takes them all. A call that takes none has failed.
+/// Writes the bytes, by one call if the writer takes them all. A call that takes none has failed.
 fn send<W: Write>(writer: &mut W, bytes: &[u8]) -> Result<(), WriteFault>
     ensures sent { OnOk result (Appends (W.contents writer.old) (W.contents writer.new) bytes.now) }
     ensures part { OnErr result (AppendsPart (W.contents writer.old)
@@ -93,7 +93,7 @@ fn refusal_line(refusal: &Refusal) -> ShortText
     line
 }
 
-/// Prints what the desk has answered, by one write where the writer takes it whole. It takes no memory.
+/// Prints what the desk has answered, by one write if the writer takes it whole. It takes no memory.
 pub fn print_told<W: Print>(writer: &mut W, told: &Told) -> Result<(), WriteFault>
     ensures sent { OnOk result (Appends (W.printed writer.old) (W.printed writer.new)
         (told_text told.now)) }

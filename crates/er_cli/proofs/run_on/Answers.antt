@@ -8,7 +8,7 @@ always : {A : Type 0} (found : Option A) {P : A → Type 0} → ((x : A) → P x
 always None it = tt
 always (Some x) it = it x
 
--- memory may be wanting for any words
+-- memory may run out for any words
 pub returns-in-Err-Memory-clause-ends : goal.returns-in-Err-Memory-clause-ends
 returns-in-Err-Memory-clause-ends g c =
     let printed = c.print in

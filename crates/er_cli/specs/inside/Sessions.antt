@@ -13,7 +13,7 @@ use Rattle.er_answers.specs.declared.question.Question.{Question}
 use Rattle.er_answers.specs.declared.question.Told.{Told}
 use Rattle.er_cli.specs.Sessions.{AsksAll}
 
--- It was asked all of it, or there was no memory for the answers. Whether a fault of the store is behind then, and its connection.
+-- It was asked all of it, or there was no memory for the answers. Then whether the store has had a fault, and its connection.
 pub record AsksAndCloses {S : Type 0} (g : Ghosts S) (desk : Desk S g) (questions : List Question)
     (it : Result (Vec Told Global) AllocError × Bool × Held S) : Type 0 where
   pub last : Desk S g

@@ -16,7 +16,7 @@ EndsUnread TooLong before after status = (status ≡ USAGE) × Appends before af
 EndsUnread Read before after status = (status ≡ DEVICE) × (after ≡ before)
 EndsUnread fault.Memory before after status = (status ≡ MEMORY) × Appends before after (told_text (Refused Memory))
 
--- what is printed of it where a write failed
+-- what is printed of it if a write failed
 abbrev pub UnreadPart : InputFault → Option (List ℕ) → Option (List ℕ) → Type 0
 UnreadPart TooLong before after = AppendsPart before after (answer_text Usage)
 UnreadPart Read before after = Keeps before after
