@@ -18,7 +18,7 @@ struct Gone {
     has_failed: bool,
 }
 
-/// Clients who wait, and what those got who are gone, or None where there was no memory to keep it.
+/// Clients who wait, and what those who are gone got, or None if there was no memory to keep it.
 #[derive(Drop)]
 pub struct Queue {
     alloc: Global,

@@ -11,7 +11,7 @@ fn script_flushes(rt: &HostRuntime, mut script: &[u8], answers: &[u8]) -> Option
     Some(status == 0 && out.get_ref().as_slice() == answers)
 }
 
-/// The answers have gone out when a script ends, also where the writer holds them back.
+/// The answers have gone out when a script ends, even if the writer holds them back.
 #[test]
 fn a_script_flushes(rt: HostRuntime) -> Result<(), Fail> {
     let flushes = script_flushes(&rt, b"players\nenrol\n", b"refused 27 NoEvent\nusage\n");
@@ -71,7 +71,7 @@ fn an_answer_is_flushed(rt: HostRuntime) -> Result<(), Fail> {
     Ok(())
 }
 
-/// Takes so many bytes, and then neither more of them nor a flush.
+/// Takes `room` bytes, and then neither more of them nor a flush.
 fn flushing_in_vain(rt: &HostRuntime, room: usize) -> Sink {
     Sink {
         taken: Vec::new(rt.alloc()),
@@ -96,7 +96,7 @@ fn a_script_that_is_not_flushed_fails(rt: HostRuntime) -> Result<(), Fail> {
     Ok(())
 }
 
-/// How `--version` ends over a writer that holds its text back, where the stream behind it takes so many bytes alone: with its status, what
+/// How `--version` ends over a writer that holds its text back, if the stream behind it takes only `room` bytes: with its status, what
 /// that stream has taken, and what the errors have.
 fn version_in_vain(rt: &HostRuntime, room: usize) -> Option<(u8, Vec<u8>, Vec<u8>)> {
     let version = String::from_str(rt.alloc(), "--version").ok()?;
@@ -110,7 +110,7 @@ fn version_in_vain(rt: &HostRuntime, room: usize) -> Option<(u8, Vec<u8>, Vec<u8
     Some((status, taken, err))
 }
 
-/// So is one behind an answer: of a text that a writer has held back a beginning has gone out, or all of it.
+/// So is one after an answer: of a text that a writer has held back a beginning has gone out, or all of it.
 #[test]
 fn an_answer_that_is_not_flushed_fails(rt: HostRuntime) -> Result<(), Fail> {
     let part = version_in_vain(&rt, 5);

@@ -107,7 +107,7 @@ fn is_answered(room: &Room, line: &str, out: &[u8], err: &[u8], answer: &str) ->
     out == answer.as_bytes() && err.is_empty() && are_served
 }
 
-/// The files that a command line leaves, where it ends well and prints this and no error.
+/// The files that a command line leaves, if it ends well and prints this and no error.
 fn left_by(
     alloc: Global,
     files: Files<Memory>,

@@ -15,7 +15,7 @@ use std::test::Fail;
 
 type Disks = Files<Fuse<Memory>>;
 
-/// A file with the bytes of another, which stops after so many calls.
+/// A file with the bytes of another, which stops after `calls` calls.
 fn copied(alloc: Global, file: &Fuse<Memory>, calls: u64) -> Option<Fuse<Memory>>
     ensures { IfSome result (λ file. IsTrue (memory_is_usable (inner_of file)) × IsFresh file) }
 {
@@ -95,7 +95,7 @@ fn shows_last(answers: &Result<Vec<Told>, Refusal>) -> bool {
     }
 }
 
-/// The serial and the version after both sessions, where the log stops after so many calls, and comes back. None within where a session
+/// The serial and the version after both sessions, if the log stops after `calls` calls, and comes back. None within if a session
 /// can't be closed or opened.
 fn held_after(alloc: Global, files: &Disks, calls: u64) -> Option<Option<(u32, u8)>> {
     let files = Files {
@@ -110,7 +110,7 @@ fn held_after(alloc: Global, files: &Disks, calls: u64) -> Option<Option<(u32, u
     }
 }
 
-/// Whether a stop cut off the first session, before its migration and after it, and the second went on. None where a stop leaves anything
+/// Whether a stop cut off the first session, before its migration and after it, and the second went on. None if a stop leaves anything
 /// else.
 fn are_cut_off(alloc: Global) -> Option<bool> {
     let files = old_files(alloc)?;

@@ -51,7 +51,7 @@ fn three_clients(rt: &HostRuntime) -> Option<(TcpListener, TcpStream, TcpStream,
     Some((listener, first, silent, last))
 }
 
-/// The status, and what is printed to a writer that holds it back, where three clients of a listener are served.
+/// The status, and what is printed to a writer that holds it back, if three clients of a listener are served.
 fn serve_three(rt: &HostRuntime, listener: &TcpListener) -> Option<(u8, BufWriter<Vec<u8>>)> {
     let mut desk = desk_after(rt.alloc(), 3, 0, FOUR)?;
     let routes = Routes::new(rt.alloc()).ok()?;
