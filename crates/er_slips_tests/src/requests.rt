@@ -311,13 +311,13 @@ fn a_bye_and_a_score_are_shown(rt: HostRuntime) -> Result<(), Fail> {
     Ok(())
 }
 
-/// A request for the standings whose head has so many bytes.
+/// A request for the standings whose head has `size` bytes.
 fn long_get(alloc: Global, size: usize) -> Option<String> {
     let room = size.saturating_sub(32);
     format!(in alloc; "GET /standings HTTP/1.1\r\nA: {:x>room$}\r\n\r\n", "").ok()
 }
 
-/// A request for the standings with so many fields.
+/// A request for the standings with `fields` fields.
 fn get_with(alloc: Global, fields: usize) -> Option<String> {
     let mut request = String::from_str(alloc, "GET /standings HTTP/1.1\r\n").ok()?;
     for _ in 0..fields {
@@ -352,7 +352,7 @@ fn heads_have_limits(rt: HostRuntime) -> Result<(), Fail> {
     Ok(())
 }
 
-/// The score with spaces behind it, 4096 bytes, after a head with so many bytes.
+/// The score with spaces after it, 4096 bytes, after a head with `size` bytes.
 fn long_post(alloc: Global, size: usize) -> Option<String> {
     let room = size.saturating_sub(63);
     format!(in alloc;
@@ -362,7 +362,7 @@ fn long_post(alloc: Global, size: usize) -> Option<String> {
     .ok()
 }
 
-/// Whether a new desk takes a score that comes in pieces of so many bytes, and then answers that it is taken.
+/// Whether a new desk takes a score that comes in pieces of `step` bytes, and then answers that it is taken.
 fn is_taken(alloc: Global, request: &[u8], step: usize) -> Option<bool> {
     let mut desk = paired(alloc)?;
     let is_right = has_answer(alloc, &mut desk, Source::new(request, step), TAKEN)
@@ -380,7 +380,7 @@ fn long_one_is_taken_once(alloc: Global) -> Option<bool> {
     Some(request.len() == 8192 + 4096 && is_taken_once(alloc, request.as_bytes()))
 }
 
-/// Worked example 14, and the long body of 44 behind the longest head.
+/// Worked example 14, and the long body of 44 after the longest head.
 #[test]
 fn a_score_is_taken_once(rt: HostRuntime) -> Result<(), Fail> {
     let alloc = rt.alloc();

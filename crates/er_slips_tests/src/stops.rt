@@ -1,4 +1,4 @@
-//! A stop at each call of the disk, over sessions. The files are opened anew with what was synced alone, and with all that was written:
+//! A stop at each call of the disk, over sessions. The files are opened anew with only what was synced, and with all that was written:
 //! each time they hold the event of the commands that were acknowledged, or of one more, and the rest of the commands lead to the same end.
 ghost use Rattle.std.specs.Prelude.{◌≡◌, false, IsTrue, IfSome};
 ghost use Rattle.sqlite_disk.specs.Memory.{memory_is_usable};
@@ -18,7 +18,7 @@ use std::test::Fail;
 /// The log and the database of an event.
 type Disks = Files<Fuse<Memory>>;
 
-/// How many calls a file passes on before it stops, where it never does.
+/// How many calls a file passes on before it stops, if it never does.
 const NEVER: u64 = u64::MAX;
 
 /// An event's rounds and cut, and its commands, a line each.
@@ -38,7 +38,7 @@ fn commands(alloc: Global, lines: &str, from: usize, to: usize) -> Option<Vec<Co
     Some(commands)
 }
 
-/// The event that so many lines make, in memory and with no stop.
+/// The event that `count` lines make, in memory and with no stop.
 fn unstopped(alloc: Global, case: Case, count: usize) -> Option<Desk<MemStore>> {
     let conn = Connection::open_in_memory(alloc).ok()?;
     let mut desk = new_desk(alloc, conn, case.rounds, case.cut)?;
@@ -59,7 +59,7 @@ fn copied(alloc: Global, bytes: &[u8]) -> Option<Memory>
     Some(copy)
 }
 
-/// Files with the bytes of these, of which each stops after so many calls.
+/// Files with the bytes of these. The log stops after `log` calls, and the database after `db`.
 fn opened_again(alloc: Global, files: &Disks, log: u64, db: u64) -> Option<Disks>
     ensures { IfSome result (λ files. IsTrue (memory_is_usable (inner_of files.log))
         × IsFresh files.log × IsTrue (memory_is_usable (inner_of files.db))
@@ -71,7 +71,7 @@ fn opened_again(alloc: Global, files: &Disks, log: u64, db: u64) -> Option<Disks
     })
 }
 
-/// What a session came to: how many commands were acknowledged, none where creation was not, and the files.
+/// What a session came to: how many commands were acknowledged, none if creation was not, and the files.
 #[derive(Drop)]
 struct Ended {
     acknowledged: Option<usize>,
@@ -85,14 +85,14 @@ enum Session {
     First { to: usize },
     /// It opens the event, and sends the commands before the second place. Those before the first one were acknowledged.
     Next { before: usize, to: usize },
-    /// It opens what so many acknowledged commands left, none where creation was not, and sends all that come after them.
+    /// It opens what the acknowledged commands left, none if creation was not, and sends all that come after them.
     Rest { acknowledged: Option<usize> },
-    /// It opens what so many acknowledged commands left, and moves it to version 2, which counts as one more.
+    /// It opens what `before` acknowledged commands left, and moves it to version 2, which counts as one more.
     Move { before: usize },
 }
 
 impl Session {
-    /// What is acknowledged where the files were not opened.
+    /// What is acknowledged if the files were not opened.
     const fn unopened(self) -> Option<usize> {
         match self {
             Session::Next { before, to: _ } | Session::Move { before } => Some(before),
@@ -107,7 +107,7 @@ const REFUSED: Refusal = Refusal::Store {
 
 const FAULT: Reply = Err(REFUSED);
 
-/// How many receipts there are, where after them comes nothing, or one fault of the device and then that the file is to be opened anew.
+/// How many receipts there are, if after them comes nothing, or one fault of the device and then that the file is to be opened anew.
 fn receipts(replies: &[Reply]) -> Option<usize> {
     let count = replies.iter().filter(|reply| reply.is_ok()).count();
     let all = match &replies[count..] {
@@ -208,7 +208,7 @@ fn move_on<S: Alter>(
     }
 }
 
-/// Whether this is the event that so many commands make with no stop, with its standings.
+/// Whether this is the event that `count` commands make with no stop, with its standings.
 fn is_unstopped(alloc: Global, case: Case, count: usize, event: &Event) -> Option<bool> {
     let desk = unstopped(alloc, case, count)?;
     let plain = desk.event().ok()?;
@@ -227,7 +227,7 @@ fn is_desk_unstopped<S: Alter>(
     is_unstopped(alloc, case, count, desk.event().ok()?)
 }
 
-/// Whether an opening may find this serial: that of the acknowledged commands, or one more; and 0 where creation was not acknowledged.
+/// Whether an opening may find this serial: that of the acknowledged commands, or one more; and 0 if creation was not acknowledged.
 fn may_find(acknowledged: Option<usize>, serial: usize) -> bool {
     match acknowledged {
         Some(count) => serial == count || serial.checked_sub(1) == Some(count),
@@ -270,7 +270,7 @@ fn holds_all<S: Alter>(
 }
 
 /// How many commands are acknowledged in the end, if what a connection shows is an event that may be there, leads to the end, and stays in
-/// the tables. There may be none where creation was not acknowledged.
+/// the tables. There may be none if creation was not acknowledged.
 fn goes_on_from<S: Alter>(
     alloc: Global,
     case: Case,
@@ -357,7 +357,7 @@ fn survives(alloc: Global, case: Case, it: &mut Ended) -> bool {
     after_process == Some(true) && after_machine == Some(true)
 }
 
-/// How many calls the log and the database pass on, where one of them stops.
+/// How many calls the log and the database pass on, if one of them stops.
 const fn calls_of(stops_log: bool, calls: u64) -> (u64, u64) {
     if stops_log {
         (calls, NEVER)
@@ -463,7 +463,7 @@ fn a_whole_event_survives_each_stop(rt: HostRuntime) -> Result<(), Fail> {
     Ok(())
 }
 
-/// The same with a seventh player, who enrols behind the start and loses at the third table.
+/// The same with a seventh player, who enrols after the start and loses at the third table.
 const SEVENTH: Case = Case {
     rounds: 1,
     cut: 4,
@@ -549,7 +549,7 @@ fn a_pairing_survives_each_stop(rt: HostRuntime) -> Result<(), Fail> {
     Ok(())
 }
 
-/// The fewest calls of one of the files, from so many on, after which a first session has sent the commands before this place.
+/// The fewest calls of one of the files, from `from_calls` on, after which a first session has sent the commands before this place.
 fn first_calls(
     alloc: Global,
     case: Case,
@@ -566,8 +566,8 @@ fn first_calls(
     None
 }
 
-/// Whether a later session has sent the commands before `places.1`, those before `places.0` being acknowledged, where it stops after so
-/// many calls.
+/// Whether a later session has sent the commands before `places.1`, those before `places.0` being acknowledged, if it stops after
+/// `calls` calls.
 fn is_sent(
     alloc: Global,
     case: Case,
@@ -603,7 +603,7 @@ fn later_calls(
     is_sent(alloc, case, files, places, stops_log, low)?.then_some(low)
 }
 
-/// Stops a session that sends the commands from `places.0` on and before `places.2`, at each call behind those that it takes to open the
+/// Stops a session that sends the commands from `places.0` on and before `places.2`, at each call after those that it takes to open the
 /// files and to send the ones before `places.1`. The count of these calls, if it survives each stop.
 fn command_stops(
     alloc: Global,
@@ -723,7 +723,7 @@ playoff 2 1 0 2 0
 ",
 };
 
-/// The files of these commands in version 1, closed behind the cut.
+/// The files of these commands in version 1, closed after the cut.
 fn old_files(alloc: Global) -> Option<Disks> {
     let files = Files {
         log: Fuse::new(Memory::new(alloc), NEVER),
