@@ -45,7 +45,7 @@ fn games(words: &[&str]) -> Option<Games> {
     }
 }
 
-/// The round, the table and the games that words are.
+/// Parses words as a round, a table and games.
 fn score_of(words: &[&str]) -> Option<(u8, u16, Games)> {
     match words {
         [round, table, score @ ..] => {
@@ -83,7 +83,7 @@ fn playoff(words: &[&str]) -> Option<Command> {
     })
 }
 
-/// The command on a match that words are.
+/// Parses words as a command on a match.
 fn score_command(words: &[&str]) -> Option<Command> {
     let (first, words) = words.split_first()?;
     match *first {
@@ -94,7 +94,7 @@ fn score_command(words: &[&str]) -> Option<Command> {
     }
 }
 
-/// The command that words are. A round is paired under the key of zeros.
+/// Parses words as a command. A round is paired under the key of zeros.
 fn command_of(alloc: Global, words: &[&str]) -> Option<Command> {
     match words {
         ["enrol", name] => enrol(alloc, name),

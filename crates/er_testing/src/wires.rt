@@ -18,7 +18,7 @@ pub struct Source<'a> {
 }
 
 impl<'a> Source<'a> {
-    /// Gives a text in pieces of at most so many bytes.
+    /// Gives a text in pieces of at most `step` bytes.
     pub fn new(text: &'a [u8], step: usize) -> Self {
         Source {
             left: text,
@@ -79,7 +79,7 @@ pub enum Break {
     FailsToFlush,
 }
 
-/// Takes one byte a call, so many in all, and keeps them.
+/// Takes one byte a call, `room` in all, and keeps them.
 #[derive(Drop)]
 pub struct Sink {
     pub taken: Vec<u8>,
