@@ -42,7 +42,7 @@ fn is_adopted(alloc: Global, desk: Desk<MemStore>) -> bool {
     }
 }
 
-/// Whether a new desk answers as is due, Ana's command alone, and then stands in its tables.
+/// Whether a new desk answers as is due, Ana's command only, and then stands in its tables.
 fn plays(alloc: Global) -> Option<bool> {
     let mut desk = desk_after(alloc, 3, 0, "")?;
     let first = submit(alloc, &mut desk, "enrol Ana");

@@ -52,7 +52,7 @@ fn scores_are_taken_where_the_rule_says(rt: HostRuntime) -> Result<(), Fail> {
     Ok(())
 }
 
-/// The refusal to set up an event so, and none where its setup is this one.
+/// The refusal to set up an event so, and none if its setup is this one.
 fn refusal_of(alloc: Global, rounds: u8, cut: u8) -> Option<Refusal> {
     match Event::create(alloc, name("Friday")?, rounds, cut) {
         Ok(event) if (event.rounds(), event.cut()) == (rounds, cut) => None,

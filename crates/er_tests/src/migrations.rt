@@ -22,7 +22,7 @@ fn old_desk_after(alloc: Global, lines: &str) -> Option<Desk<MemStore>> {
     }
 }
 
-/// The desk after its tables were moved to version 2, where it says that they are.
+/// The desk after its tables were moved to version 2, if it says that they are.
 fn moved_desk_after(alloc: Global, lines: &str, serial: u32) -> Option<Desk<MemStore>> {
     let mut desk = old_desk_after(alloc, lines)?;
     let was_old = desk.version() == Ok(1);
@@ -80,7 +80,7 @@ fn an_event_goes_on_in_its_version(rt: HostRuntime) -> Result<(), Fail> {
     Ok(())
 }
 
-/// Whether a store answers of each version, and finds its event and serial in both. A second migration is none.
+/// Whether a store answers of each version, and finds its event and serial in both. A second migration isn't one.
 fn store_moves(alloc: Global) -> Option<bool> {
     let desk = old_desk_after(alloc, DROPPED)?;
     let (mut store, event, serial) = Store::adopt(alloc, desk.close()).ok()?;
@@ -244,7 +244,7 @@ fn refused_old(alloc: Global, statements: &str) -> Option<Refusal> {
     )
 }
 
-/// Whether tables of version 1 are refused as damage of this table after each of these statements alone.
+/// Whether tables of version 1 are refused as damage of this table after each of these statements by itself.
 fn are_old_damage(alloc: Global, statements: &str, table: Place) -> bool {
     for sql in statements.lines() {
         if refused_old(alloc, sql) != Some(Refusal::Damaged { table }) {
@@ -293,7 +293,7 @@ fn named(alloc: Global, statements: &str) -> Option<Place> {
     }
 }
 
-/// A text that is no UTF-8 is read, and then checked with its table. A blob can't be read.
+/// A text that isn't UTF-8 is read, and then checked with its table. A blob can't be read.
 #[test]
 fn names_are_checked_behind_all_reading(rt: HostRuntime) -> Result<(), Fail> {
     let alloc = rt.alloc();

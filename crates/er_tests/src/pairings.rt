@@ -58,7 +58,7 @@ fn words_of_a_key_that_ends_in_one(rt: HostRuntime) -> Result<(), Fail> {
     Ok(())
 }
 
-/// RFC 8439, A.1, test vector 4: block 2 under a key whose second byte alone is 255.
+/// RFC 8439, A.1, test vector 4: block 2 under a key in which only the second byte is 255.
 #[test]
 fn words_of_a_key_with_one_byte_set(rt: HostRuntime) -> Result<(), Fail> {
     let mut seed = [0; 32];
@@ -114,7 +114,7 @@ fn are_new_in_order(alloc: Global, event: &Event, expected: &[u16]) -> bool {
     are_in_order(alloc, event, expected) && Met::of(alloc, event).is_ok_and(|met| !met.has(1, 2))
 }
 
-/// Whether the zero key puts so many players in this order.
+/// Whether the zero key puts `count` players in this order.
 fn are_put_in_order(alloc: Global, count: u16, expected: &[u16]) -> bool {
     match started(alloc, 3, 0, count) {
         Some(event) => are_new_in_order(alloc, &event, expected),
@@ -283,7 +283,7 @@ fn nobody_is_paired_with_nobody(rt: HostRuntime) -> Result<(), Fail> {
 }
 
 /// Brings the list into its earliest legal pairing, two by two, entry by entry: a plain search, which the other one is compared with.
-/// `None` where there is no legal pairing, and the list is then as it was.
+/// `None` if there is no legal pairing, and the list is then as it was.
 fn paired_plainly(list: &mut [u16], met: &Met, steps: &mut u32) -> Option<()> {
     if list.len() < 2 {
         return Some(());
@@ -324,7 +324,7 @@ fn draw(state: &mut u64) -> u64 {
     *state >> 33
 }
 
-/// Meetings of the numbers up to the last: of a hundred pairs so many have met.
+/// Meetings of the numbers up to the last: `percent` of a hundred pairs have met.
 fn drawn_meetings(
     rt: &impl Abort,
     alloc: Global,
@@ -344,7 +344,7 @@ fn drawn_meetings(
     Ok(met)
 }
 
-/// The numbers up to the last in an order that is drawn by lot, and 0 behind them where their count is odd.
+/// The numbers up to the last in an order that is drawn by lot, and 0 after them if their count is odd.
 fn drawn_order(
     rt: &impl Abort,
     alloc: Global,
@@ -365,7 +365,7 @@ fn drawn_order(
     Ok(order)
 }
 
-/// Whether these are the pairs that the entries are, two by two.
+/// Whether the pairs are the entries, two by two.
 fn are_laid_out(pairs: &[(u16, u16)], entries: &[u16]) -> bool {
     let mut left = entries;
     for (one, other) in pairs {

@@ -68,7 +68,7 @@ fn refusals_name_the_round(rt: HostRuntime) -> Result<(), Fail> {
 
 const REPORTED: &str = "enrol Ana\nenrol Bo\nstart\npair 1\nresult 1 1 2 1 0";
 
-/// A result that is handed in twice is refused with the score that stands, also where it is another.
+/// A result that is handed in twice is refused with the score that stands, even if it is another.
 fn names_the_stored_score(alloc: Global) -> Option<bool> {
     let score = Score::swiss(Games { x: 2, y: 1, d: 0 })?;
     let again = "result 1 1 2 1 0\nresult 1 1 0 2 0\nresult 1 1 2 2 0";

@@ -83,7 +83,7 @@ fn game_win(points: u16, games: u8) -> Result<Share, Fail> {
     Ok(gwp(GameRecord::try_new(points, games).ok_or("beyond the limits")?))
 }
 
-/// Whether the share has so many parts, in decimal.
+/// Whether the share has `parts` parts, in decimal.
 fn has_parts(alloc: Global, share: Share, parts: &str) -> Result<bool, Fail> {
     let shown = format!(in alloc; "{share:?}")?;
     let want = format!(in alloc; "Share {{ parts: {parts} }}")?;
@@ -120,7 +120,7 @@ fn averages_that_print_alike_differ(rt: HostRuntime) -> Result<(), Fail> {
     assert_eq!(rt; (hundredths(first), hundredths(second)), (5265, 5265));
     assert!(rt; has_parts(rt.alloc(), first, "246254996548040360208422326191960000")?);
     assert!(rt; has_parts(rt.alloc(), second, "246220627392904555552426733403936000")?);
-    // 7165 of 13,608 parts is no multiple of 27,720 parts of the whole, and can't be averaged again.
+    // 7165 of 13,608 parts isn't a multiple of 27,720 parts of the whole, and can't be averaged again.
     assert!(rt; first > second && !first.is_base());
     Ok(())
 }

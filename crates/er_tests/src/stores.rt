@@ -285,7 +285,7 @@ fn refused_after(
     )
 }
 
-/// Whether the tables are refused as damage of this table after each of these statements alone.
+/// Whether the tables are refused as damage of this table after each of these statements by itself.
 fn are_damage(
     alloc: Global,
     rounds: u8,
@@ -359,7 +359,7 @@ UPDATE player2 SET joined = 3 WHERE no = 2
 const DROPPED: &str = "enrol Ana\nenrol Bo\nstart\ndrop 2";
 
 /// The first table whose rows no event has is named. Without the table of the event there is none. Players are looked for in the table of
-/// version 1 where no row says version 2, and it isn't there.
+/// version 1 if no row says version 2, and it isn't there.
 #[test]
 fn broken_events_and_players_are_damage(rt: HostRuntime) -> Result<(), Fail> {
     let alloc = rt.alloc();

@@ -24,7 +24,7 @@ fn players_are_written_and_read(rt: HostRuntime) -> Result<(), Fail> {
     Ok(())
 }
 
-/// Table 1 of round 1, where Di has won.
+/// Table 1 of round 1, which Di has won.
 fn first_line() -> Option<ResultLine> {
     let score = Score::swiss(Games { x: 2, y: 0, d: 0 })?;
     Some(ResultLine {

@@ -14,7 +14,7 @@ fn bracket(alloc: Global, first: Match, second: Match) -> Option<Change> {
     Some(Change::AddBracket { matches })
 }
 
-/// Whether the seeds agree where the six of worked example 17 are cut to these slots.
+/// Whether the seeds agree if the six of worked example 17 are cut to these slots.
 fn agree(alloc: Global, first: Match, second: Match) -> Option<bool> {
     let change = bracket(alloc, first, second)?;
     let event = changed(alloc, six(alloc)?, &change)?;
