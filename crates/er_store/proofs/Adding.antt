@@ -73,15 +73,17 @@ pub record Same (old new : State) : Type 0 where
 
 pub same_moves : {l : Layout} {old mid new : State} → Same old mid → Moves l mid new → Moves l old new
 same_moves {l} {old} {mid} {new} same moves = record {
-  was = sym same.mode ∙ moves.was;
-  shows = record {
-    was_open = sym same.is_open ∙ moves.shows.was_open;
-    is_open = moves.shows.is_open;
-    now_is = moves.shows.now_is;
-    committed_is = moves.shows.committed_is ∙ same.committed_is;
-    mode = moves.shows.mode;
+  continues = record {
+    was = sym same.mode ∙ moves.continues.was;
+    shows = record {
+      was_open = sym same.is_open ∙ moves.continues.shows.was_open;
+      is_open = moves.continues.shows.is_open;
+      now_is = moves.continues.shows.now_is;
+      committed_is = moves.continues.shows.committed_is ∙ same.committed_is;
+      mode = moves.continues.shows.mode;
+    };
+    sound = moves.continues.sound;
   };
-  sound = moves.sound;
   keeps = rw same.now_is at moves.keeps;
 }
 

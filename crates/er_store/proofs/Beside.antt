@@ -72,7 +72,7 @@ pub ready_beside : {version : ℕ} {e : EventValue} {old mid new : State} → Is
     → IsReadyBeside version e old new
 unfolding all_kept
 ready_beside {version} {e} {old} {mid} {new} known fresh keeps made put = record {
-  sound = put.goes.sound;
+  sound = put.goes.continues.sound;
   makes = record {
     keeps = all_kept made put;
     just = made.just;

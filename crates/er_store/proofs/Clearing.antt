@@ -120,6 +120,6 @@ clears table {sql} {old} {new} {at} means found nothing numbered ran =
     let edit : Edit = record { table = table; gone = ids_of rows; news = [] } in
     let applied = one_step schema keys trees new.now.trees edit (nothing keys (taken_by trees edit)) d.3 in
     record {
-      goes = record { was = ran.was; shows = h.1; sound = w.sound; schema = d.2; others = applied.tables };
+      goes = record { continues = record { was = ran.was; shows = h.1; sound = w.sound }; schema = d.2; others = applied.tables };
       empty = applied.rows ∙ emptied (trees table.tree) rows listed.same numbered;
     }

@@ -196,7 +196,7 @@ module _ {m : Move} {old new : State} {v : ℕ} {ps : List Player} {f : List Row
   step tree w qs g goes has former elsewhere =
       let k = here.keeps in
       record {
-        goes = record { was = goes.was; shows = goes.shows; sound = goes.sound };
+        goes = goes.continues;
         first = here.first;
         stand = subst (HasTablesAt m.from) (sym goes.schema) here.stand;
         has = has;

@@ -14,7 +14,7 @@ use Rattle.std.proofs.lemmas.List.Elements.{All-append}
 use Rattle.std.proofs.lemmas.List.Sorted.{IsPermutation-to_front, IsPermutation-middle, IsPermutation-cons}
 use Rattle.std.specs.Ordering.{match_ordering}
 use Rattle.er_store.specs.{Representing.IsNew, inside.Making.LieEmpty}
-use Rattle.er_store.proofs.Layouts.{apart, tree_is, of_ours}
+use Rattle.er_store.proofs.{Behind.goes_then, Layouts.{apart, tree_is, of_ours}}
 
 -- ---- a row with a free rowid is one more row
 
@@ -77,20 +77,11 @@ keeps_then l a b c p q = record {
 }
 
 pub goes_moves : (l : Layout) (tree : ℕ) (old new : State) → ((t : ℕ) → IsOther l t → t ≢ tree) → Goes tree old new → Moves l old new
-goes_moves l tree old new apart goes =
-    record { was = goes.was; shows = goes.shows; sound = goes.sound; keeps = goes_keeps l tree old new apart goes }
+goes_moves l tree old new apart goes = record { continues = goes.continues; keeps = goes_keeps l tree old new apart goes }
 
 pub moves_then : {l : Layout} {a b c : State} → Moves l a b → Moves l b c → Moves l a c
 moves_then {l} {a} {b} {c} p q = record {
-  was = p.was;
-  shows = record {
-    was_open = p.shows.was_open;
-    is_open = q.shows.is_open;
-    now_is = refl;
-    committed_is = q.shows.committed_is ∙ p.shows.committed_is;
-    mode = q.shows.mode;
-  };
-  sound = q.sound;
+  continues = goes_then p.continues q.continues;
   keeps = keeps_then l a.now b.now c.now p.keeps q.keeps;
 }
 

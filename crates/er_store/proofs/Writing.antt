@@ -94,7 +94,7 @@ puts_one table row {sql} {params} {old} {new} {at} {width} {terms} means found u
     let task : Task = record { limit = old.step_limit; keys = (mode_of old).keys; schema = schema; table = table; params = params } in
     let done = row_goes task (mode_of old) old.now.trees at width terms row w.tally new.now uncounted news (rw found at w.changed) in
     record {
-      goes = record { was = ran.was; shows = h.1; sound = w.sound; schema = done.0; others = done.1.tables };
+      goes = record { continues = record { was = ran.was; shows = h.1; sound = w.sound }; schema = done.0; others = done.1.tables };
       free = first_fresh _ done.1.fresh;
       rows = done.1.rows;
     }
@@ -167,7 +167,7 @@ replaces table id row {sql} {params} {old} {new} {at} {q} means apart found show
     let none = no_works_elsewhere schema keys table.tree (taken_by trees edit) edit.news apart in
     let applied = one_step schema keys trees new.now.trees edit none wrote in
     record {
-      goes = record { was = ran.was; shows = h.1; sound = w.sound; schema = u.2; others = applied.tables };
+      goes = record { continues = record { was = ran.was; shows = h.1; sound = w.sound }; schema = u.2; others = applied.tables };
       free = first_fresh _ applied.fresh;
       rows = applied.rows;
     }

@@ -1,10 +1,10 @@
 -- What one statement does within a transaction.
-use Rattle.std.specs.Prelude.{◌≡◌, ◌≢◌, ◌<◌, ◌≤◌, ℕ, Ok, true, false, List, length, IsTrue}
+use Rattle.std.specs.Prelude.{◌≡◌, ◌≢◌, ◌<◌, ◌≤◌, ℕ, Ok, false, List, length, IsTrue}
 use Rattle.std.specs.List.{AllByRecursion}
 use Rattle.sqlite.specs.Tree.{put_row}
 use Rattle.sqlite.specs.Order.{Row}
 use Rattle.sqlite.specs.Effect.{IsDatabase}
-use Rattle.sqlite.specs.State.{State, Shows, HasCleanDisk, KeepsCommit, Survives, ExecutesInside}
+use Rattle.sqlite.specs.State.{State, HasCleanDisk, KeepsCommit, Survives, ExecutesInside}
 use Rattle.sqlite_rules.specs.Edit.{is_taken}
 use Rattle.er_event.specs.declared.matches.Match.{Match}
 use Rattle.er_event.specs.declared.rows.tally.TallyRow.{TallyRow}
@@ -14,6 +14,7 @@ use Rattle.er_store.specs.Tables.{player_tree, players_of}
 use Rattle.sqlite.specs.Table.{Table}
 use Rattle.er_store.specs.Representing.{RepresentsWith, RepresentsIn, KeepsRest}
 use Rattle.er_store.specs.Layout.{Layout}
+use Rattle.er_store.specs.inside.Making.{ContinuesTransaction}
 
 -- the statement went well, within a transaction
 pub record Ran (sql : List ℕ) (params : Row) (old new : State) : Type 0 where
@@ -28,9 +29,7 @@ pub record Stays (old new : State) : Type 0 where
 
 -- the transaction goes on, and no other table has changed
 pub record Goes (tree : ℕ) (old new : State) : Type 0 where
-  pub was : IsTrue old.in_transaction
-  pub shows : Shows old new new.now old.committed true
-  pub sound : IsDatabase new.now
+  pub continues : ContinuesTransaction old new
   pub schema : new.now.schema ≡ old.now.schema
   pub others : AllByRecursion (λ t. t.tree ≢ tree → new.now.trees t.tree ≡ old.now.trees t.tree) old.now.schema.tables
 
@@ -42,9 +41,7 @@ pub record Puts (tree : ℕ) (row : Row) (old new : State) : Type 0 where
 
 -- The transaction goes on from the one to the other, and the tables that are none of the event's are as they were.
 pub record Moves (layout : Layout) (old new : State) : Type 0 where
-  pub was : IsTrue old.in_transaction
-  pub shows : Shows old new new.now old.committed true
-  pub sound : IsDatabase new.now
+  pub continues : ContinuesTransaction old new
   pub keeps : KeepsRest layout old.now new.now
 
 -- what a step makes of tables that represent an event, with these rows of totals
