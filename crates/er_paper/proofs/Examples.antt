@@ -51,7 +51,8 @@ unfolding next_record Reached strip_bom digits
 marked_as_records = (st.AfterCr, codes "\n", (_, refl, refl, (_, refl, refl, (refl, refl))), refl)
 
 -- the crate takes off a second one
-pub marked_twice : HasRecords (0xEF ∷ 0xBB ∷ 0xBF ∷ 0xEF ∷ 0xBB ∷ 0xBF ∷ codes "name\nAna\n") ((codes "name" ∷ []) ∷ (codes "Ana" ∷ []) ∷ [])
+pub marked_twice : HasRecords (0xEF ∷ 0xBB ∷ 0xBF ∷ 0xEF ∷ 0xBB ∷ 0xBF ∷ codes "name\nAna\n")
+    ((codes "name" ∷ []) ∷ (codes "Ana" ∷ []) ∷ [])
 unfolding next_record Reached strip_bom digits
 marked_twice = (st.StartRecord, [], (_, refl, refl, (_, refl, refl, (refl, refl))), refl)
 

@@ -4,7 +4,8 @@ use Rattle.std.proofs.{lemmas.Grind.common_steps, Common.{◌≡◌, ℕ, ◌+�
 use Rattle.std.proofs.{Common.append-nil, lemmas.List.{take_more, length-take-le}, lemmas.List.Concat.flat_map-append}
 use Rattle.er_event.specs.{declared.matches.Match.Match}
 
-enumerate_from-push : (n : ℕ) (ms : List Match) (m : Match) → enumerate_from n (ms ++ m ∷ []) ≡ enumerate_from n ms ++ (n + length ms, m) ∷ []
+enumerate_from-push : (n : ℕ) (ms : List Match) (m : Match)
+    → enumerate_from n (ms ++ m ∷ []) ≡ enumerate_from n ms ++ (n + length ms, m) ∷ []
 enumerate_from-push n [] m = let same : n ≡ n + 0 = omega arith in ap (λ k. (k, m) ∷ []) same
 enumerate_from-push n (first ∷ ms) m = grind (arith, common_steps, enumerate_from-push (n + 1) ms m)
 

@@ -1,7 +1,8 @@
 -- The tables of a legal pairing are a round that the event may have next.
 use Rattle.std.proofs.{lemmas.Grind.common_steps, Common.{◌≡◌, ◌≢◌, ◌⊎◌, inl, inr, ℕ, ◌+◌, ◌-◌, ◌<◌, ◌≤◌, ◌==◌, not, Bool, true}}
 use Rattle.std.proofs.Common.{List, [], ◌∷◌, ◌++◌, length, map, filter, take, flat_map, All, AllPairs, IsTrue, IsFalse, IfSome}
-use Rattle.std.proofs.Common.{IsPermutation, Contains, get_or, slice_index, Option, Some, None, refl, sym, ap, ◌∙◌, arith, length-append, append-nil}
+use Rattle.std.proofs.Common.{IsPermutation, Contains, get_or, slice_index, Option, Some, None, refl, sym, ap, ◌∙◌, arith}
+use Rattle.std.proofs.Common.{length-append, append-nil}
 use Rattle.std.proofs.{Common.append_assoc, lemmas.Bool.{cases_Bool, cases_lt, not-true, eqb-true}}
 use Rattle.std.proofs.{lemmas.Bool.Decides.{nat_tests, Decides-eqb}, lemmas.List.{get_or-map, get_or_append_left}}
 use Rattle.std.proofs.{lemmas.List.length-map, lemmas.List.Concat.flat_map-append, lemmas.List.Elements.{All-push, All-contains}}

@@ -208,7 +208,8 @@ picks_one_table e k t s m found seat =
     by_found r is (find (is_at t) (enumerate_from 1 r.matches)) refl here
     (found_in (λ m. Unit) (is_at t) 1 r.matches (omega arith) (λ i d below. tt)) low)
   where
-    by_found : (r : Round) → slice_get e.stored (k - 1) ≡ Some r → (o : Option (ℕ × Match)) → find (is_at t) (enumerate_from 1 r.matches) ≡ o
+    by_found : (r : Round) → slice_get e.stored (k - 1) ≡ Some r → (o : Option (ℕ × Match))
+        → find (is_at t) (enumerate_from 1 r.matches) ≡ o
         → option_map (λ (n : ℕ × Match). n.1) o ≡ Some m → IfSome o (Finds (λ m. Unit) (is_at t)) → 1 ≤ k → PicksTable e k t s
     by_found r is None at here finds low = absurd (none-some m here)
     by_found r is (Some it) at here finds low =

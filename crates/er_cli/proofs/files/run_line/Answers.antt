@@ -69,6 +69,6 @@ returns-clause-goes_on g c =
       sym (ap (λ (parts : List ℕ × Action). parts.1) c.file_and_action-file.ensures),
       c.in-Open.is,
     ) (
-    rw (sym c.as_str-path.ensures) (absent_goes_on _ (g.H.Host.world c.args.host.now) c.as_str-path.result.now _ _ c.in-Err.why c.in-Err.ensures.absent c.tell_no_desk.ensures.left
-    c.tell_no_desk.ensures.told c.in-Open.task)
+    rw (sym c.as_str-path.ensures) (absent_goes_on _ (g.H.Host.world c.args.host.now) c.as_str-path.result.now _ _ c.in-Err.why
+    c.in-Err.ensures.absent c.tell_no_desk.ensures.left c.tell_no_desk.ensures.told c.in-Open.task)
     )

@@ -1,4 +1,5 @@
-use Rattle.er_event.proofs.Prelude.{is_lawful_name, player_row, rules, Player, IsTrue, [], arith, ◌++◌, ◌∷◌, ◌≡◌, common_steps, All-push, take_more}
+use Rattle.er_event.proofs.Prelude.{is_lawful_name, player_row, rules, Player, IsTrue, [], arith, ◌++◌, ◌∷◌, ◌≡◌}
+use Rattle.er_event.proofs.Prelude.{common_steps, All-push, take_more}
 use Rattle.er_event.proofs.PartsLemmas.{row_at}
 use Rattle.er_event.proofs.rows.player.read_rows.Goals as goal
 
