@@ -220,19 +220,19 @@ fn recount_one<S: Alter>(
     event: &Event,
     change: &Change,
     player: &Player,
-    totals: (Totals, Totals),
+    was: Totals,
+    now: Totals,
 ) -> Result<(), Error>
     ensures lends { Lends S.Store tx.old tx.new }
     ensures makes { (l : Layout) (e : EventValue) (before : ℕ → Totals)
         → HasPlayer e player.now.no
-        → before player.now.no ≡ totals.0
+        → before player.now.no ≡ was
         → Moves l (tx_state S.Store tx.old) (tx_state S.Store tx.old)
         → Counts S.Store l e (tally_rows_by before e.players)
-        (tally_rows_by (set_for player.now.no totals.1 before) e.players)
+        (tally_rows_by (set_for player.now.no now before) e.players)
         tx.old result tx.new }
 {
-    let (before, now) = totals;
-    if now != before || event.corrects(change, player.no) {
+    if now != was || event.corrects(change, player.no) {
         set_totals(tx, player.no, now)?;
     }
     Ok(())
@@ -256,16 +256,10 @@ fn recount<S: Alter>(
     if !event.may_alter_totals(change) {
         return Ok(());
     }
-    let before = event.all_totals();
+    let was = event.all_totals();
     let now = event.all_totals_after(change);
     for player in players {
-        recount_one(
-            tx,
-            event,
-            change,
-            player,
-            (before.of(player), now.of(player)),
-        )?;
+        recount_one(tx, event, change, player, was.of(player), now.of(player))?;
     }
     Ok(())
 }

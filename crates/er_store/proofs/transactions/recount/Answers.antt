@@ -35,8 +35,8 @@ loop-player-preserved g c =
     let below : k < length event.players = rw value at c.loop-player-test.true in
     let it = c.player-item.result in
     let is : it ≡ get_or event.players k it = rw value at c.player-item.is in
-    let was_due : gathered_of c.all_totals-before.result it ≡ before it.no =
-    totals-at event event.players c.all_totals-before.result c.all_totals-before.ensures k it below is in
+    let was_due : gathered_of c.all_totals-was.result it ≡ before it.no =
+    totals-at event event.players c.all_totals-was.result c.all_totals-was.ensures k it below is in
     let due : gathered_of c.all_totals_after-now.result it ≡ now it.no =
     totals-at (after event c.args.change.now) event.players c.all_totals_after-now.result c.all_totals_after-now.ensures k it below is in
     let no : it.no ≡ k + 1 = ap (λ (p : Player). p.no) (rw value at c.player-item.is) ∙ (number-at event sound k it below ∙ omega arith)

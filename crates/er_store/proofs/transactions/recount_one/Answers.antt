@@ -8,7 +8,7 @@ returns-in_ok-set_totals-clause-makes g c l e before numbered kept moves s repre
 
 pub returns-else-corrects-clause-makes : goal.returns-else-corrects-clause-makes
 returns-else-corrects-clause-makes g c l e before numbered kept moves s represents clean =
-    let same : c.args.totals.0 ≡ c.args.totals.1 = search rules in
+    let same : c.args.was ≡ c.args.now = search rules in
     rw (← rows_agree before _ e.players numbered.0
-    (λ q low high. set_same (λ _. c.args.totals.1) before c.args.player.now.no q (kept ∙ same)))
+    (λ q low high. set_same (λ _. c.args.now) before c.args.player.now.no q (kept ∙ same)))
     (record { moves = moves; represents = represents })
