@@ -179,7 +179,7 @@ def test_a_row_stands_on_one_line(room, browser, part, players):
     lines = [(float(top) + 0.79 * (float(bottom) - float(top)), word) for top, bottom, word in words]
     names = [line for line, word in lines if word.startswith("Bo")]
     apart = {word: min(abs(line - it) for it in names) for line, word in lines if names[0] - 4 < line < names[-1] + 4}
-    assert len(names) == players and {word: points for word, points in apart.items() if points > 1.2} == {}
+    assert len(names) == players and {word: points for word, points in apart.items() if points > 0.6} == {}
 
 
 # ---- the screen
