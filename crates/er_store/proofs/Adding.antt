@@ -4,11 +4,11 @@ use Rattle.er_store.proofs.Prelude.{◌∷◌, ◌++◌, map, true, refl, sym, a
 use Rattle.er_store.proofs.Prelude.{IsPermutation, map-append, take_all, take_more, Row, Int, put_row, rowid, Database, State, is_int}
 use Rattle.er_store.proofs.Prelude.{Place, rows_in, rows_with, PairingTable, Match, Round, PairingRow, EventValue, with_round, pairing_row}
 use Rattle.er_store.proofs.Prelude.{round_rows, pairing_rows, TallyRow, pairing_columns, stored_pairing, RepresentsWith, IsKeyed, Puts}
-use Rattle.er_store.proofs.Prelude.{Moves}
+use Rattle.er_store.proofs.Prelude.{LeavesOthers}
 use Rattle.er_store.proofs.Prelude.{BringsToWith, all_from_test, test_from_all, BracketTable, BracketRow, with_stage, bracket_row}
 use Rattle.er_store.proofs.Prelude.{stage_rows, bracket_rows, bracket_columns, stored_slot, Layout}
 use Rattle.sqlite_trees.proofs.TreeLemmas.{IsTable-put_row, all-put_row}
-use Rattle.er_store.proofs.{Together.{keeps_as, pairings_set, moves_then, row_put, bracket_set}}
+use Rattle.er_store.proofs.{Together.{keeps_as, pairings_set, leaves_then, row_put, bracket_set}}
 use Rattle.er_store.proofs.{Grouped.{rows_more, pairing_rows_are, newest_more}}
 use Rattle.er_store.proofs.Grouped.{bracket_rows_are}
 
@@ -71,27 +71,27 @@ pub record Same (old new : State) : Type 0 where
   pub now_is : new.now ≡ old.now
   pub committed_is : new.committed ≡ old.committed
 
-pub same_moves : {l : Layout} {old mid new : State} → Same old mid → Moves l mid new → Moves l old new
-same_moves {l} {old} {mid} {new} same moves = record {
+pub same_leaves : {l : Layout} {old mid new : State} → Same old mid → LeavesOthers l mid new → LeavesOthers l old new
+same_leaves {l} {old} {mid} {new} same leaves = record {
   continues = record {
-    was = sym same.mode ∙ moves.continues.was;
+    was = sym same.mode ∙ leaves.continues.was;
     shows = record {
-      was_open = sym same.is_open ∙ moves.continues.shows.was_open;
-      is_open = moves.continues.shows.is_open;
-      now_is = moves.continues.shows.now_is;
-      committed_is = moves.continues.shows.committed_is ∙ same.committed_is;
-      mode = moves.continues.shows.mode;
+      was_open = sym same.is_open ∙ leaves.continues.shows.was_open;
+      is_open = leaves.continues.shows.is_open;
+      now_is = leaves.continues.shows.now_is;
+      committed_is = leaves.continues.shows.committed_is ∙ same.committed_is;
+      mode = leaves.continues.shows.mode;
     };
-    sound = moves.continues.sound;
+    sound = leaves.continues.sound;
   };
-  keeps = rw same.now_is at moves.keeps;
+  keeps = rw same.now_is at leaves.keeps;
 }
 
 -- `count` matches are stored, of a round or a stage that an event has with them
 pub record Adds (l : Layout) (event : List Match → EventValue) (count : ℕ) (matches : List Match) (serial : ℕ) (totals : List TallyRow)
     (old new : State) : Type 0 where
   pub none : count ≡ 0 → Same old new
-  pub some : 0 < count → Moves l old new
+  pub some : 0 < count → LeavesOthers l old new
   pub represents : RepresentsWith l new.now (event matches) serial totals
 
 pub adds_none : (s : State) (event : List Match → EventValue) (serial : ℕ) → {l : Layout} {totals : List TallyRow}
@@ -107,11 +107,11 @@ pub adds_one : {l : Layout} {old mid new : State} {event : List Match → EventV
     {totals : List TallyRow} → Adds l event count before serial totals old mid → BringsToWith l mid new (event after) serial totals
     → Adds l event (count + 1) after serial totals old new
 adds_one {l} {old} {mid} {new} {event} {count} was made =
-    record { none = λ never. absurd (omega (arith, never)); some = λ _. moves count was.none was.some; represents = made.represents }
+    record { none = λ never. absurd (omega (arith, never)); some = λ _. leaves count was.none was.some; represents = made.represents }
   where
-    moves : (n : ℕ) → (n ≡ 0 → Same old mid) → (0 < n → Moves l old mid) → Moves l old new
-    moves zero none some = same_moves (none refl) made.moves
-    moves (suc n) none some = moves_then (some (omega arith)) made.moves
+    leaves : (n : ℕ) → (n ≡ 0 → Same old mid) → (0 < n → LeavesOthers l old mid) → LeavesOthers l old new
+    leaves zero none some = same_leaves (none refl) made.leaves
+    leaves (suc n) none some = leaves_then (some (omega arith)) made.leaves
 
 -- the next match of a list is stored
 pub adds_next : {l : Layout} {old mid new : State} {event : List Match → EventValue} {serial : ℕ} {totals : List TallyRow} (at : ℕ)
@@ -126,7 +126,7 @@ pub adds_all : {l : Layout} {old new : State} {event : List Match → EventValue
     (at : ℕ) (matches : List Match) → 0 < length matches → length matches ≤ at → Adds l event at (take at matches) serial totals old new
     → BringsToWith l old new (event matches) serial totals
 adds_all at matches some past adds =
-    record { moves = adds.some (omega arith); represents = rw (take_all at matches past) at adds.represents }
+    record { leaves = adds.some (omega arith); represents = rw (take_all at matches past) at adds.represents }
 
 -- ---- the rows of one more stage
 

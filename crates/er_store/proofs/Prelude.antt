@@ -121,5 +121,5 @@ pub use Rattle.er_store.specs.declared.rows.NamedPairing.{NamedPairing}
 pub use Rattle.er_store.specs.inside.Lookup.{begins_select}
 pub use Rattle.er_store.specs.inside.Meetings.{is_outside, sides_in, meeting_rows, complete_rows, sides_of}
 pub use Rattle.er_store.specs.inside.Queries.{Selects, table_query, SelectsWith, TakesParameters}
-pub use Rattle.er_store.specs.inside.Steps.{made_players, Puts, BringsToWith, Ran, Moves, Stays, Goes, IsReady, IsStage}
+pub use Rattle.er_store.specs.inside.Steps.{made_players, Puts, BringsToWith, Ran, LeavesOthers, Stays, Goes, IsReady, IsStage}
 pub use Rattle.er_store.specs.inside.Totals.{set_for, set_up_to}

@@ -5,7 +5,7 @@ use Rattle.er_store.proofs.Prelude.{Player, Refusal, Memory, PlayerRow, TallyRow
 use Rattle.er_store.proofs.Prelude.{tally_rows, IsSoundButForSeeds, tally_by, totals, IsFault, Tally, Round}
 use Rattle.er_store.proofs.Prelude.{Contains, refl, ap₂, subst, AllByRecursion, range_with_len, nat_tests, map-append}
 use Rattle.er_store.proofs.Prelude.{Table, Trees, State, SetDropped, Totals, after, new_player, with_player}
-use Rattle.er_store.proofs.Prelude.{tally_rows_by, numbers, Layout, IsOther, Moves, set_for, set_up_to, map-map, ◌-◌}
+use Rattle.er_store.proofs.Prelude.{tally_rows_by, numbers, Layout, IsOther, LeavesOthers, set_for, set_up_to, map-map, ◌-◌}
 use Rattle.std.proofs.lemmas.List.{get_or-map}
 use Rattle.er_event.specs.{declared.changes.Change.Change, declared.changes.Change.TheVariants.AddPlayer}
 use Rattle.er_event.specs.declared.{players.TheConstants.MAX_PLAYERS, events.Phase.TheVariants.Enrolling}
@@ -70,8 +70,8 @@ same_rows : (l : Layout) (trees : Trees) (tables : List Table)
 same_rows l trees [] = tt
 same_rows l trees (t ∷ more) = (λ _. refl, same_rows l trees more)
 
-pub moves_self : {l : Layout} {a b : State} → Moves l a b → Moves l b b
-moves_self moves = grind (arith, common_steps, same_rows)
+pub leaves_self : {l : Layout} {a b : State} → LeavesOthers l a b → LeavesOthers l b b
+leaves_self leaves = grind (arith, common_steps, same_rows)
 
 -- ---- players by number
 

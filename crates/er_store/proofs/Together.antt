@@ -7,7 +7,7 @@ use Rattle.er_store.proofs.Prelude.{BracketTable, TallyTable, EventValue, Phase,
 use Rattle.er_store.proofs.Prelude.{pairing_rows_from, bracket_rows_from, Player, Round, Match, TallyRow, player_columns}
 use Rattle.er_store.proofs.Prelude.{pairing_columns, bracket_columns, tally_columns, stored_event, stored_player, stored_tally, rows_in}
 use Rattle.er_store.proofs.Prelude.{rows_with, HasTablesAt, HasRows, RepresentsWith, IsKeyed, IsOther, KeepsRest, Goes, Puts}
-use Rattle.er_store.proofs.Prelude.{Moves, player_shown, Layout, RepresentsIn, tally_rows, shown_of}
+use Rattle.er_store.proofs.Prelude.{LeavesOthers, player_shown, Layout, RepresentsIn, tally_rows, shown_of}
 use Rattle.er_store.proofs.Prelude.{stored_player2, BringsToWith, all_weaker, value_cmp, All-cons, All-nil}
 use Rattle.er_event.specs.Version.{Keeps, KeepsPlayers}
 use Rattle.std.proofs.lemmas.List.Elements.{All-append}
@@ -76,18 +76,18 @@ keeps_then l a b c p q = record {
   rows = both_kept l a.trees b.trees c.trees a.schema.tables p.rows (rw p.schema at q.rows);
 }
 
-pub goes_moves : (l : Layout) (tree : ℕ) (old new : State) → ((t : ℕ) → IsOther l t → t ≢ tree) → Goes tree old new → Moves l old new
-goes_moves l tree old new apart goes = record { continues = goes.continues; keeps = goes_keeps l tree old new apart goes }
+pub goes_leave : (l : Layout) (tree : ℕ) (old new : State) → ((t : ℕ) → IsOther l t → t ≢ tree) → Goes tree old new → LeavesOthers l old new
+goes_leave l tree old new apart goes = record { continues = goes.continues; keeps = goes_keeps l tree old new apart goes }
 
-pub moves_then : {l : Layout} {a b c : State} → Moves l a b → Moves l b c → Moves l a c
-moves_then {l} {a} {b} {c} p q = record {
+pub leaves_then : {l : Layout} {a b c : State} → LeavesOthers l a b → LeavesOthers l b c → LeavesOthers l a c
+leaves_then {l} {a} {b} {c} p q = record {
   continues = goes_then p.continues q.continues;
   keeps = keeps_then l a.now b.now c.now p.keeps q.keeps;
 }
 
 pub makes_then : {l : Layout} {a b c : State} {e f : EventValue} {s : ℕ} {kept new : List TallyRow} → BringsToWith l a b e s kept
     → BringsToWith l b c f s new → BringsToWith l a c f s new
-makes_then p q = record { moves = moves_then p.moves q.moves; represents = q.represents }
+makes_then p q = record { leaves = leaves_then p.leaves q.leaves; represents = q.represents }
 
 -- ---- the changes
 
@@ -122,7 +122,7 @@ table_set : (l : Layout) (tree : ℕ) {old new : State} {e f : EventValue} {s t 
     → ((l.tree BracketTable ≢ tree → IsKeyed (new.now.trees (l.tree BracketTable))) → IsKeyed (new.now.trees (l.tree BracketTable)))
     → BringsToWith l old new f t after
 table_set l tree {old} {new} apart represents goes low keeps follows pairings bracket = record {
-  moves = goes_moves l tree old new apart goes;
+  leaves = goes_leave l tree old new apart goes;
   represents = record { low = low; keeps = keeps; has = rows_set l tree represents.has goes follows pairings bracket };
 }
 

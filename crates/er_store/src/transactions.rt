@@ -23,7 +23,7 @@ ghost use Rattle.er_store.specs.Representing.{RepresentsAt, IsStoredIn, IsNew, R
 ghost use Rattle.er_store.specs.Representing.{ReadsEvent};
 ghost use Rattle.er_store.specs.Beside.{HoldsBeside, IsStoredBeside};
 ghost use Rattle.er_store.specs.inside.Making.{IsReadyBeside};
-ghost use Rattle.er_store.specs.inside.Steps.{made_players, Moves, BringsTo};
+ghost use Rattle.er_store.specs.inside.Steps.{made_players, LeavesOthers, BringsTo};
 ghost use Rattle.er_store.specs.inside.Within.{tx_state, Lends, Achieves, Brings, Counts, Inside, HasPlayer};
 ghost use Rattle.er_store.specs.inside.Looking.{OnlyLooks, Transacts};
 
@@ -227,7 +227,7 @@ fn recount_one<S: Alter>(
     ensures makes { (l : Layout) (e : EventValue) (before : ℕ → Totals)
         → HasPlayer e player.now.no
         → before player.now.no ≡ was
-        → Moves l (tx_state S.Store tx.old) (tx_state S.Store tx.old)
+        → LeavesOthers l (tx_state S.Store tx.old) (tx_state S.Store tx.old)
         → Counts S.Store l e (tally_rows_by before e.players)
         (tally_rows_by (set_for player.now.no now before) e.players)
         tx.old result tx.new }
@@ -248,7 +248,7 @@ fn recount<S: Alter>(
     requires fits { Fits event.now change.now }
     ensures lends { Lends S.Store tx.old tx.new }
     ensures makes { (l : Layout) (e : EventValue) → numbers e.players ≡ numbers event.now.players
-        → Moves l (tx_state S.Store tx.old) (tx_state S.Store tx.old)
+        → LeavesOthers l (tx_state S.Store tx.old) (tx_state S.Store tx.old)
         → Counts S.Store l e (tally_rows_by (totals event.now) e.players)
         (tally_rows_by (totals (after event.now change.now)) e.players) tx.old result tx.new }
 {

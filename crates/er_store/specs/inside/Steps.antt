@@ -40,13 +40,13 @@ pub record Puts (tree : ℕ) (row : Row) (old new : State) : Type 0 where
   pub rows : new.now.trees tree ≡ put_row row (old.now.trees tree)
 
 -- The transaction goes on from the one to the other, and the tables that are none of the event's are as they were.
-pub record Moves (layout : Layout) (old new : State) : Type 0 where
+pub record LeavesOthers (layout : Layout) (old new : State) : Type 0 where
   pub continues : ContinuesTransaction old new
   pub keeps : KeepsRest layout old.now new.now
 
 -- what a step makes of tables that represent an event, with these rows of totals
 pub record BringsToWith (layout : Layout) (old new : State) (e : EventValue) (serial : ℕ) (totals : List TallyRow) : Type 0 where
-  pub moves : Moves layout old new
+  pub leaves : LeavesOthers layout old new
   pub represents : RepresentsWith layout new.now e serial totals
 
 -- and with those of the event

@@ -1,5 +1,5 @@
 use Rattle.er_store.proofs.Prelude.{sym, on_ok_weaker, after, tally_rows, totals}
-use Rattle.er_store.proofs.{Lending.lends_then, Crash.was_clean, Together.makes_then, Tallying.{moves_self, same_players, same_numbers}}
+use Rattle.er_store.proofs.{Lending.lends_then, Crash.was_clean, Together.makes_then, Tallying.{leaves_self, same_players, same_numbers}}
 use Rattle.er_store.proofs.Tallying.{one_more_player}
 use Rattle.er_store.proofs.transactions.change_tables.Goals as goal
 
@@ -28,6 +28,6 @@ returns-in_default g c =
       lends = lends_then first.lends c.recount.ensures.lends;
       makes = λ l version s represents clean.
           let one = first.makes l version s (tally_rows e) represents (was_clean c.recount.ensures.lends.stays.survives clean) in
-          on_ok_weaker c.recount.result (λ two. makes_then one two) (c.recount.ensures.makes l next same (moves_self one.moves) s
+          on_ok_weaker c.recount.result (λ two. makes_then one two) (c.recount.ensures.makes l next same (leaves_self one.leaves) s
           (rw (← same_players (totals e) e.players next.players (sym same)) one.represents) clean);
     }

@@ -30,8 +30,8 @@ ready g c late was =
     let new = (state g.S.Store c.change_event.new.tx.conn.now).now in
     let at = was.represents in
     let made = begins at.layout at.is at.represents (was_clean c.commit.ensures.survives late) in (
-      record { sound = made.moves.continues.sound; represents = record { layout = at.layout; is = at.is; represents = made.represents } },
-      subst (λ v. KeepsOthers v old new) at.is (rest_kept at.layout at.represents.has.tables made.moves.keeps),
+      record { sound = made.leaves.continues.sound; represents = record { layout = at.layout; is = at.is; represents = made.represents } },
+      subst (λ v. KeepsOthers v old new) at.is (rest_kept at.layout at.represents.has.tables made.leaves.keeps),
     )
 
 pub returns-clause-written : goal.returns-clause-written
