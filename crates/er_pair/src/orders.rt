@@ -52,8 +52,6 @@ pub fn order(alloc: Global, event: &Event, keys: &[u32]) -> Result<Vec<u16>, All
     requires { length keys.now ≡ length (active_numbers event.now) }
     ensures ordered { IfOk result (λ order. (key : ℕ → ℕ) → AreKeys keys.now key
         → IsOrder event.now key order.items) }
-    ensures one { (key : ℕ → ℕ) (one other : List ℕ) → IsOrder event.now key one
-        → IsOrder event.now key other → one ≡ other }
     ensures distinct { IfOk result (λ order. AllPairs (λ p q. p ≢ q) order.items) }
     ensures few { IfOk result (λ order. length order.items ≤ MAX_PLAYERS) }
     ensures even { IfOk result (λ order. length order.items % 2 ≡ 0) }

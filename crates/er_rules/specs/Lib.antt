@@ -12,6 +12,8 @@
 --     of er_event (`named`, `memory`).
 --   `laws::one_step`: of a sound event a command has one outcome. `laws::step_keeps_sound`, and clause `keeps`: the event stays sound, its
 --     seeds too.
+--   `laws::budget_searches`: `Budget` is answered only if the search needs more than its steps.
+--   `laws::steps_are_taken`: tables of a version can take what a command makes, unless it enrols too late for them.
 --   `seeds_agree`: exactly whether an event has the seeds of its standings.
 --   `laws::no_double_effect`, `names_stay`: a command that was taken once, and no correction, is refused at every later point of a run; a
 --     correction that is sent again at once is taken, and gives the same event.

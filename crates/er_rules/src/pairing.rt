@@ -12,7 +12,7 @@ ghost use Rattle.er_rules.specs.Step.{Answers};
 ghost use Rattle.er_event.specs.Round.{match_of, tables_of};
 
 use er_event::{BYE, Change, Event, Items, MAX_PLAYERS, Match, Phase, Refusal, Score};
-use er_pair::laws::legal_seats;
+use er_pair::laws::{legal_seats, one_order};
 use er_pair::{Met, first_pairing, keys, order};
 use std::alloc::{AllocError, Global};
 
@@ -72,8 +72,6 @@ fn check_pair(event: &Event, round: u8) -> Result<(), Refusal>
 /// The order in which a round is paired under this seed.
 fn seeded_order(alloc: Global, event: &Event, seed: &[u8; 32]) -> Result<Vec<u16>, AllocError>
     ensures ordered { IfOk result (λ order. IsOrder event.now (seed_words seed.now) order.items) }
-    ensures one { IfOk result (λ _. (key : ℕ → ℕ) (one other : List ℕ) → IsOrder event.now key one
-        → IsOrder event.now key other → one ≡ other) }
     ensures distinct { IfOk result (λ order. AllPairs (λ p q. p ≢ q) order.items) }
     ensures few { IfOk result (λ order. length order.items ≤ MAX_PLAYERS) }
     ensures even { IfOk result (λ order. length order.items % 2 ≡ 0) }
@@ -139,6 +137,7 @@ pub fn decide_pair(
     ensures named { IfErr result (λ why. (why ≡ Refusal.Memory) ⊎ IsOfRules why) }
 {
     check_pair(event, round)?;
+    one_order();
     let order = seeded_order(alloc, event, seed)?;
     let met = Met::of(alloc, event)?;
     let pairs = first_pairing(alloc, order.as_slice(), &met)?;

@@ -1,5 +1,5 @@
 use Rattle.std.proofs.{Common.{ℕ, Vec, Global, get_or, refl, arith}, lemmas.Grind.common_steps, lemmas.Result.IfOk-weaker}
-use Rattle.er_pair.proofs.{Ordering.{ordered, few, stands_once}, Uniqueness.one_order}
+use Rattle.er_pair.proofs.Ordering.{ordered, few, stands_once}
 use Rattle.er_pair.proofs.orders.order.Goals as goal
 
 pub returns : goal.returns
@@ -13,13 +13,9 @@ returns c =
     let is = λ (seats : Vec ℕ Global). ordered event keys sorted seats.items sound c.requires moved c.sort_entrants.ensures.sorted in
     record {
       ordered = IfOk-weaker _ _ _ (λ (seats : Vec ℕ Global) seated. is seats seated) c.seats.ensures;
-      one = one_order event;
       distinct = IfOk-weaker _ _ _
           (λ (seats : Vec ℕ Global) seated. stands_once event own seats.items sound (is seats seated own (λ _ _. refl))) c.seats.ensures;
       few = IfOk-weaker _ _ _
           (λ (seats : Vec ℕ Global) seated. few event own seats.items sound (is seats seated own (λ _ _. refl))) c.seats.ensures;
       even = grind (arith, common_steps);
     }
-
-pub returns-in_err-entrants-clause-one : goal.returns-in_err-entrants-clause-one
-returns-in_err-entrants-clause-one c = one_order c.args.event.now

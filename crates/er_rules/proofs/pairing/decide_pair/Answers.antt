@@ -30,7 +30,7 @@ returns-in_err-pairs-clause-refused c =
     let none : c.first_pairing.result ≡ Err NoPairing → NoneOf (have_met e) order = λ is.
     subst (λ (m : ℕ → ℕ → Bool). NoneOf m order) c.in_ok-met.ensures
     (subst (NoneOf (has_met c.in_ok-met.met)) c.as_slice.ensures.value (c.first_pairing.ensures.none is)) in
-    rw said (refused_by e c.args.round c.args.seed.now c.in_ok-check_pair.ensures.accepted order of_order.ordered of_order.one
+    rw said (refused_by e c.args.round c.args.seed.now c.in_ok-check_pair.ensures.accepted order of_order.ordered (c.one_order.ensures e)
     c.first_pairing.result (exact (goal.at.returns-in_err-pairs-clause-refused c).After-first_pairing) fault c.in_err-pairs.was none
     c.first_pairing.ensures.steps)
 
@@ -57,7 +57,7 @@ returns-clause-taken c =
     let may = may_come_next e (seed_words c.args.seed.now) order ps of_order.ordered of_order.distinct next.3 it checked.sound
     next.0 next.1 next.2 in
     let are : c.in_ok-matches.matches ≡ tables_of ps = c.in_ok-matches.ensures ∙ ap tables_of c.as_slice-2.ensures.value in
-    let made = taken_by e c.args.round c.args.seed.now checked.accepted order of_order.ordered of_order.one c.first_pairing.result
-    (exact (goal.at.returns-clause-taken c).After-first_pairing) c.in_ok-pairs.pairs c.in_ok-pairs.was ps it in
+    let made = taken_by e c.args.round c.args.seed.now checked.accepted order of_order.ordered (c.one_order.ensures e)
+    c.first_pairing.result (exact (goal.at.returns-clause-taken c).After-first_pairing) c.in_ok-pairs.pairs c.in_ok-pairs.was ps it in
     subst (λ (ms : List Match). Fits e (AddRound ms) × Answers e (Pair c.args.round c.args.seed.now) (Ok (with_round e ms))) (sym are)
     (checked.fits (tables_of ps) may, made)
