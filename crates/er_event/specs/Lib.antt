@@ -23,7 +23,9 @@
 --     bracket; memory aside.
 --   `totals`, `all_totals`, and both after a change: what a player has from the complete rounds, with no memory. `has_tallies` says exactly
 --     whether rows of totals are the event's; `may_alter_totals`: if not, a change leaves the totals of each player.
---     `corrects`: exactly whether a change replaces a score of a match of this player.
+--     `corrects`: exactly whether a change replaces a score of a match of this player. `laws::others_keep_totals`: a player who is added
+--     leaves the totals of the others.
+--   `laws::changes_are_kept`: if tables of a version keep an event and can take a change, they keep the event after it.
 --   `Refusal::number`, `name`, `Display`: the number and the name of each refusal, and how it is shown.
 --
 -- Not promised: that a playoff has the seeds of the standings (`IsSound` of er_rules).
