@@ -1,7 +1,7 @@
 -- A change whose round isn't complete after it leaves the totals of each player of the event.
 use Rattle.er_event.proofs.Prelude.{open_match, Fits, match_with_score, scored_slot, EventValue, rounds_missed_of, results_from}
 use Rattle.er_event.proofs.Prelude.{complete_results, RoundResult, is_complete, IsSoundButForSeeds, numbers, totals, totals_of}
-use Rattle.er_event.proofs.Prelude.{AddRound, SetScore, SetDropped, Match, Round, Games, Bool, Contains, List, [], ap, ap₂, arith, false}
+use Rattle.er_event.proofs.Prelude.{AddRound, SetScore, SetDropped, Match, Round, Games, Contains, List, [], ap, ap₂, arith, false}
 use Rattle.er_event.proofs.Prelude.{get_or, length, refl, set, suc, sym, true, zero, ℕ, ◌++◌, ◌+◌, ◌-◌, ◌∙◌, ◌∷◌, ◌≡◌, ◌≤◌}
 use Rattle.er_event.proofs.Prelude.{inl, inr, common_steps}
 use Rattle.std.proofs.{Common.append-nil, lemmas.Bool.cases_Bool}

@@ -1,6 +1,6 @@
 -- Rows, of whichever table, that show matches one after the other, and groups of them in turn.
 use Rattle.er_event.proofs.Prelude.{enumerate_from, Match, All, Bool, List, [], ap, ap₂, arith, drop, false, get_or, length}
-use Rattle.er_event.proofs.Prelude.{length-append, map, refl, subst, suc, sym, take, true, zero, ℕ, ℤ, ◌&&◌, ◌++◌, ◌+◌, ◌-◌, ◌<◌, ◌∙◌, ◌∷◌}
+use Rattle.er_event.proofs.Prelude.{length-append, map, refl, subst, sym, take, true, ℕ, ℤ, ◌&&◌, ◌++◌, ◌+◌, ◌-◌, ◌<◌, ◌∙◌, ◌∷◌}
 use Rattle.er_event.proofs.Prelude.{◌≡◌, ◌≤◌, length-map, Decides-int_eq, common_steps, All-drop, drop_all, drop_more, length-drop}
 use Rattle.er_event.proofs.Prelude.{map-append, take_all, take_more, take_rest, Decides, AllByRecursion}
 use Rattle.std.proofs.{lemmas.List.Elements.All-head, Math.Seq.{drop-append_seam, drop-drop, take-add, take-append_seam}}

@@ -1,5 +1,5 @@
 -- What each player has played, round by round, and how many rounds each has missed.
-use Rattle.std.specs.Prelude.{ℕ, ◌==◌, ◌&&◌, not, nat_le, Bool, if◌then◌else◌, List, [], ◌∷◌, ◌++◌, flat_map, filter, count_by, find}
+use Rattle.std.specs.Prelude.{ℕ, ◌==◌, ◌&&◌, not, nat_le, if◌then◌else◌, List, [], ◌∷◌, ◌++◌, flat_map, filter, count_by, find}
 use Rattle.std.specs.{Prelude.{Option, Some, None}, List.enumerate_from, Option.option_map_or}
 use Rattle.er_event.specs.declared.matches.Match.{Match}
 use Rattle.er_event.specs.declared.players.Player.{Player}

@@ -1,6 +1,6 @@
 -- Answers, routes and what requests ask for, computed from the definitions.
 use Rattle.std.proofs.Common.{inl}
-use Rattle.std.specs.{Prelude.{◌≡◌, ℕ, false, true, List, [], ◌∷◌, map, Some, None, Ok, Err, codes, refl}, Fmt.digits}
+use Rattle.std.specs.{Prelude.{◌≡◌, ℕ, false, List, [], ◌∷◌, map, Some, None, Ok, Err, codes, refl}, Fmt.digits}
 use Rattle.httparse.specs.Grammar.{RequestHead, Field, crlf}
 use Rattle.httparse.proofs.OnLiterals.{httparse_on_literals}
 use Rattle.er_event.specs.{declared.events.Phase.TheVariants.Swiss, declared.players.Player.Player, declared.scores.Games.Games}

@@ -1,5 +1,5 @@
 -- What a request asks for, by the checks in their order.
-use Rattle.std.specs.Prelude.{◌≡◌, ◌≤◌, ℕ, ◌==◌, nat_eq, nat_lt, nat_le, Bool, true, false, ◌&&◌, if◌then◌else◌, List}
+use Rattle.std.specs.Prelude.{◌≡◌, ◌≤◌, ℕ, ◌==◌, nat_eq, nat_lt, nat_le, Bool, ◌&&◌, if◌then◌else◌, List}
 use Rattle.std.specs.Prelude.{[], ◌∷◌, length, take, drop}
 use Rattle.std.specs.Prelude.{map, filter, Option, Some, None, option_map, option_and_then, Result, Ok, Err, codes}
 use Rattle.std.specs.List.{list_all, list_any, starts_with}

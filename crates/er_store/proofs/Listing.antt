@@ -32,7 +32,6 @@ use Rattle.sqlite_resolve.specs.Program as program_specs
 use Rattle.sqlite_resolve.specs.Select.{having, inside, parts, ungrouped, assembled, named, paging, constant_or}
 use Rattle.sqlite_resolve.specs.Terms.{number}
 use Rattle.sqlite.specs.Query.{Query}
-use Rattle.sqlite.specs.Command.TheVariants.{Select as Selecting}
 use Rattle.sqlite.specs.declared.types.Value.TheVariants.{Int}
 use Rattle.sqlite.specs.Listing.{understood}
 use Rattle.std.proofs.Common.{lit≤, length, ◌≤◌}

@@ -25,7 +25,6 @@ use Rattle.er_store.proofs.Meaning.{slip_query, score_tests}
 use Rattle.sqlite_typing.specs.Types.{accepts_program}
 use Rattle.std.proofs.Common.{lit≤, length, ◌≤◌}
 use Rattle.sqlite.specs.Kind.TheVariants.{Text}
-use Rattle.sqlite.specs.Command.TheVariants.{Select as Selecting}
 use Rattle.sqlite.specs.declared.types.Value.TheVariants.{Int}
 use Rattle.sqlite_resolve.specs.Body.{tests, shown, outputs, outputs_from, heading, declared, is_column}
 use Rattle.sqlite_draft.specs.declared.join.Step.{Step}

@@ -10,7 +10,6 @@ use Rattle.std.proofs.lemmas.List.{get_or-map}
 use Rattle.er_event.specs.{declared.changes.Change.Change, declared.changes.Change.TheVariants.AddPlayer}
 use Rattle.er_event.specs.declared.{players.TheConstants.MAX_PLAYERS, events.Phase.TheVariants.Enrolling}
 use Rattle.er_event.specs.Totals.{AreTotals, Gathered, gathered_of}
-use Rattle.er_store.proofs.Prelude.{All, IsFalse}
 use Rattle.er_store.proofs.Picking.{within, numbers-dropped_at}
 
 -- ---- the rows of players and of totals, one beside the other

@@ -1,4 +1,4 @@
-use Rattle.std.proofs.Common.{arith, ◌≡◌, ◌∙◌, ◌+◌, eqb, sym, refl, true, false, Bor, List, [], ◌∷◌, ℕ}
+use Rattle.std.proofs.Common.{arith, ◌≡◌, ◌∙◌, ◌+◌, eqb, refl, true, false, Bor, List, [], ◌∷◌, ℕ}
 use Rattle.std.proofs.Common.{Option, Some, None, drop, take, length}
 use Rattle.std.proofs.lemmas.{Grind.common_steps, Bool.Decides.nat_tests}
 use Rattle.std.specs.{Prelude.MatchOption, Option.unwrap_or, Cmp.Lexicographic.pointwise}

@@ -1,4 +1,4 @@
-use Rattle.er_event.proofs.Prelude.{phase_code, arith, rules, pos, refl, sym, ap, subst, ◌∙◌, ◌≡◌, ◌≤◌, ◌∷◌, [], ℕ, EventRow, EventValue}
+use Rattle.er_event.proofs.Prelude.{phase_code, arith, rules, pos, ap, subst, ◌≡◌, ◌≤◌, ◌∷◌, [], ℕ, EventRow, EventValue}
 use Rattle.er_event.proofs.Prelude.{IsEventRow}
 use Rattle.er_event.specs.Version.{IsVersion, KeepsRounds}
 use Rattle.er_event.proofs.Prelude.{IsTrue, Some, is_lawful_name}
