@@ -16,7 +16,7 @@ import tempfile
 from scripts import TOP
 
 # the crates of tests
-TESTS, SLIPS_TESTS, CLI_TESTS = "er_tests", "er_slips_tests", "er_cli_tests"
+TESTS, SLIPS_TESTS, CLI_TESTS = "er_desk_tests", "er_slips_tests", "er_cli_tests"
 WHOLE_EVENT, PAIRING = "stops::a_whole_event_survives_each_stop", "stops::a_pairing_survives_each_stop"
 ADOPTED = "desks::a_desk_answers_and_is_adopted"
 SERVED, GOES_ON = "sockets::clients_are_served", "sessions::sessions_go_on"

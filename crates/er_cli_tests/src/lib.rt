@@ -1,4 +1,4 @@
-//! Tests of `er_cli`, for what no clause says and no script shows. They stand apart from `er_tests`, so that those need not wait for
+//! Tests of `er_cli`, for what no clause says and no script shows. They stand apart from `er_desk_tests`, so that those need not wait for
 //! command lines.
 #![tactic(auto)]
 

@@ -1,6 +1,6 @@
 use Rattle.std.proofs.{Common.{◌∙◌, not, filter, length, sym, ap}, lemmas.List.length-map, lemmas.List.Sums.length-filter}
 use Rattle.er_event.specs.declared.players.Player.{Player}
-use Rattle.er_tests.proofs.pairings.zero_key_order.Goals as goal
+use Rattle.er_desk_tests.proofs.pairings.zero_key_order.Goals as goal
 
 pub order-requires : goal.order-requires
 order-requires c =
