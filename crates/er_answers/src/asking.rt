@@ -133,8 +133,9 @@ pub fn ask<S: Alter>(alloc: Global, desk: &mut Desk<S>, question: Question) -> T
         (desk_state desk.old) question result (desk_state desk.new) }
     ensures asked { AsksFor S.Store desk.old question result desk.new }
 {
-    // To look at a desk asks nothing of its file: this tells the proof.
+    // To look at a desk asks nothing of its file, and a command asks a session of this one command: these tell the proof.
     desk.asks_nothing();
+    desk.submits_ask();
     match question {
         Question::Submit { command } => reply_told(desk.submit(alloc, command)),
         Question::Standings => standings(alloc, desk),

@@ -57,14 +57,14 @@ module _ {S : Type 0} (g : Ghosts S) (Asked : Type 0) (old new : Desk S g) where
 
   pub went_asking : (session : Session) → Asks g old session new → Went g Asked old session Stays new
   went_asking session it = record {
-    clean = it.clean;
-    waits = λ stopped. ((it.waits stopped).0, (it.waits stopped).1, λ v. refl);
+    clean = it.as_call.clean;
+    waits = λ stopped. (it.as_call.waits stopped, it.idle stopped, λ v. refl);
     leads = it.leads;
     sure = it.sure;
-    within = λ runs. it.version;
-    represents = λ may. it.represents;
+    within = λ runs. it.as_call.version;
+    represents = λ may. it.as_call.represents;
     migrates = λ clean shows may runs.
-        still_may it.version (it.others clean shows (it.represents clean shows runs).is_open).schema may;
+        still_may it.as_call.version (it.as_call.others clean shows (it.as_call.represents clean shows runs).is_open).schema may;
     crash = λ may. (goes_asking g old session new it).crash;
   }
 

@@ -175,7 +175,8 @@ Stays was now = now ≡ was
 pub goes_asking : {S : Type 0} (g : Ghosts S) (old : Desk S g) (session : Session) (new : Desk S g) → Asks g old session new
     → Goes g Stays old session new
 goes_asking g old session new it =
-    record { clean = it.clean; sure = it.sure; crash = λ shows clean trees may. (version_in old, refl, it.crash shows clean trees may) }
+    let crash = it.crash in
+    record { clean = it.as_call.clean; sure = it.sure; crash = λ shows clean trees may. (version_in old, refl, crash shows clean trees may) }
 
 -- tables of version 2 stay so
 still_second : (old new : DeskState) (moved : Result ℕ Refusal) → Migrates old moved new → old.version ≡ 2 → new.version ≡ 2
@@ -220,18 +221,18 @@ pub represents_second : {S : Type 0} (g : Ghosts S) (old new : Desk S g) (questi
     → AsksFor g old question told new → version_in old ≡ 2 → HasCleanDisk (state g new) → HoldsOwnEvent g old
     → IsFalse (desk_state new).needs_reopen
     → HoldsOwnEvent g new
-represents_second g old new (Submit command) told it second = it.represents
-represents_second g old new Standings told it second = it.represents
-represents_second g old new (Show view) told it second = it.represents
-represents_second g old new (SlipOf round table) told it second = it.represents
+represents_second g old new (Submit command) told it second = it.as_call.represents
+represents_second g old new Standings told it second = it.as_call.represents
+represents_second g old new (Show view) told it second = it.as_call.represents
+represents_second g old new (SlipOf round table) told it second = it.as_call.represents
 represents_second g old new Migrate told it second = it.does.represents (inl second)
 
 pub stays_second : {S : Type 0} (g : Ghosts S) (old new : Desk S g) (question : Question) (told : Told)
     → AsksFor g old question told new → version_in old ≡ 2 → version_in new ≡ 2
-stays_second g old new (Submit command) told it second = it.version ∙ second
-stays_second g old new Standings told it second = it.version ∙ second
-stays_second g old new (Show view) told it second = it.version ∙ second
-stays_second g old new (SlipOf round table) told it second = it.version ∙ second
+stays_second g old new (Submit command) told it second = it.as_call.version ∙ second
+stays_second g old new Standings told it second = it.as_call.version ∙ second
+stays_second g old new (Show view) told it second = it.as_call.version ∙ second
+stays_second g old new (SlipOf round table) told it second = it.as_call.version ∙ second
 stays_second g old new Migrate told it second =
     still_second (desk_state old) (desk_state new) it.moved it.does.turn second
 
@@ -341,7 +342,7 @@ works_for g old new Migrate told it = it
 
 work_clean : {S : Type 0} (g : Ghosts S) (old : Desk S g) (work : Work) (new : Desk S g) → WorksOn g old work new
     → HasCleanDisk (state g new) → HasCleanDisk (state g old)
-work_clean g old (Commands session) new it = it.clean
+work_clean g old (Commands session) new it = it.as_call.clean
 work_clean g old (Migration told) new it = it.does.clean
 
 -- ---- a history that left the file

@@ -204,7 +204,7 @@ module _ {S : Type 0} (g : Ghosts S) where
   ran_before old mid session asks runs = elim (cases_Bool (desk_state old).needs_reopen) [
     | inr ran ↦ ran
     | inl stopped ↦
-        let same = (asks.waits stopped).0 in
+        let same = asks.as_call.waits stopped in
         absurd (true≢false (sym stopped ∙ sym (ap (λ (d : Desk S g). (desk_state d).needs_reopen) same) ∙ runs))
   ]
 
@@ -227,11 +227,11 @@ module _ {S : Type 0} (g : Ghosts S) where
           got_then = next.got_then ∙ ap (λ (gs : List Got). gs ++ next.gots) it.got_then ∙ append_assoc before it.gots next.gots;
           session = join_sessions it.session next.session;
           each = get_then Sure (desk_state old) (desk_state mid) (desk_state new) it.session next.session it.came next.came it.gots next.gots
-              (get_by First Sure (λ sure. (next.asks.clean sure.0, sure.1)) (desk_state old) (desk_state mid) it.session it.came it.gots
-              it.each)
+              (get_by First Sure (λ sure. (next.asks.as_call.clean sure.0, sure.1)) (desk_state old) (desk_state mid) it.session it.came
+              it.gots it.each)
               (get_by Next Sure (λ sure. (
                 sure.0,
-                λ runs. it.asks.represents (next.asks.clean sure.0)
+                λ runs. it.asks.as_call.represents (next.asks.as_call.clean sure.0)
                     (sure.1 (ran_before old mid it.session it.asks runs)) runs,
               )) (desk_state mid) (desk_state new) next.session next.came next.gots
               next.each);

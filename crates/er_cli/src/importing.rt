@@ -99,8 +99,9 @@ fn enrol<S: Alter>(alloc: Global, desk: &mut Desk<S>, name: &Name) -> Reply
     ensures asked { Asks S.Store desk.old
         (session_of (Enrol name.now ∷ []) (result ∷ []) (desk_state desk.new).needs_reopen) desk.new }
 {
-    // A name that is not handed in asks nothing of the file: this tells the proof.
+    // A name that is not handed in asks nothing of the file, and one that is asks a session of this one command: these tell the proof.
     desk.asks_nothing();
+    desk.submits_ask();
     let Ok(name) = Vec::from_slice(alloc, name.as_bytes()) else {
         return Err(Refusal::Memory);
     };

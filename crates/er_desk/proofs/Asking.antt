@@ -9,17 +9,17 @@ use Rattle.sqlite_trees.specs.declared.store.Store.{Ghosts}
 use Rattle.sqlite.specs.{Tree.Trees, State.{HasCleanDisk, IsUnchanged}}
 use Rattle.er_event.specs.{declared.commands.Command.Command, Event.EventValue}
 use Rattle.er_rules.specs.Step.{Steps}
-use Rattle.er_store.specs.{Reading.KeepsTables, Representing.{KeepsOthers, AfterCrash, RepresentsNow}}
+use Rattle.er_store.specs.{Reading.KeepsTables, Representing.{AfterCrash, RepresentsNow}}
 use Rattle.er_desk.specs.Reply.{Reply}
-use Rattle.er_desk.specs.Desk.{Point, Placed, DeskState, Outcome, HoldsOwnEvent, point_of, placed_at, placed_of, state, desk_state}
+use Rattle.er_desk.specs.Desk.{Point, DeskState, Outcome, HoldsOwnEvent, point_of, placed_at, placed_of, state, desk_state}
 use Rattle.er_desk.specs.{declared.desk.Desk.Desk, Desk.version_in}
-use Rattle.er_desk.specs.Headline.{RecoversJust, RecoversEither, RecoversEnd}
+use Rattle.er_desk.specs.Headline.{RecoversJust, RecoversEnd}
 use Rattle.er_desk.specs.Run.{Session, session_of, no_session, EndsAfterAcknowledged}
 use Rattle.er_desk.specs.{Run.{EndsWithDoubt, IsStoredEnd, Runs, acknowledged_commands, last_tried, tried_or}, History.LeadsTo}
-use Rattle.er_desk.specs.Asking.{Asks, Submits, join_sessions, later_in_doubt}
-use Rattle.er_desk.proofs.Running.{accepts_of, runs_lead, session_goes_on, session_stops, stays, stops_now, turn_version, keeps_more}
+use Rattle.er_desk.specs.Asking.{Asks, DeskCall, Submits, join_sessions, later_in_doubt}
+use Rattle.er_desk.proofs.Running.{accepts_of, runs_lead, session_goes_on, session_stops, stops_now, keeps_more}
 use Rattle.er_desk.proofs.Running.{was_running, fault_tried}
-use Rattle.er_desk.proofs.Turns.{waits_of, stops_of, stopped_of, turn_fault, turn_asks, keeps_self, same_keeps}
+use Rattle.er_desk.proofs.Turns.{waits_of, stops_of, stopped_of, turn_fault, turn_asks, same_keeps, same_call}
 use Rattle.er_desk.proofs.Slips.{read_keeps, read_others, still_shows}
 use Rattle.er_desk.proofs.Histories.{leads_then}
 use Rattle.er_desk.proofs.NextSession.{quiet_end}
@@ -31,60 +31,55 @@ waited_session c true = refl
 waited_session c false = refl
 
 module _ {S : Type 0} (g : Ghosts S) (old new : Desk S g) (c : Command) where
-  stored_now : (r : Reply) → Outcome (desk_state old) c r (desk_state new)
-      → OnOk r (RecoversJust (state g new) (placed_of (desk_state new)))
-      → IfErr r (λ _. IsFalse (desk_state new).needs_reopen → RecoversJust (state g new) (placed_of (desk_state old)))
+  stored_now : (r : Reply) → OnOk r (RecoversJust (state g new) (placed_of (desk_state new)))
+      → IfErr r (λ _. IsFalse (desk_state new).needs_reopen → new ≡ old)
+      → (new ≡ old → RecoversJust (state g new) (placed_of (desk_state old)))
       → IsFalse (desk_state new).needs_reopen → RecoversJust (state g new) (placed_of (desk_state new))
-  stored_now (Ok it) turn done refused runs = done
-  stored_now (Err why) turn done refused runs =
-      subst (λ (p : Placed). RecoversJust (state g new) p) (sym (stays (desk_state old) (desk_state new) c why turn)) (refused runs)
+  stored_now (Ok it) done same refused runs = done
+  stored_now (Err why) done same refused runs =
+      subst (λ (d : Desk S g). RecoversJust (state g new) (placed_of (desk_state d))) (sym (same runs)) (refused (same runs))
 
-  module _ (r : Reply) (turn : Outcome (desk_state old) c r (desk_state new)) where
-    pub command_sure : IsFalse (desk_state new).needs_reopen → (session_of (c ∷ []) (r ∷ []) (desk_state new).needs_reopen).in_doubt ≡ None
-    command_sure runs = rw runs refl
+  -- a command that was kept is one
+  unless_kept : (r : Reply) (P : Type 0) → acknowledged_commands (c ∷ []) (r ∷ []) ≡ [] → OnErr r P → P
+  unless_kept (Ok it) P none kept = absurd (cc)
+  unless_kept (Err why) P none kept = kept
 
-    pub command_leads : LeadsTo (point_of (desk_state old)) (session_of (c ∷ []) (r ∷ []) (desk_state new).needs_reopen).acknowledged
-        (point_of (desk_state new))
-    command_leads = runs_lead (desk_state old) (desk_state new) (c ∷ []) (r ∷ []) (desk_state new, turn, refl)
+  module _ (r : Reply) (it : Submits g old c r new) where
+    command_idle : IsTrue (desk_state old).needs_reopen → session_of (c ∷ []) (r ∷ []) (desk_state new).needs_reopen ≡ no_session
+    command_idle stopped = subst (λ (x : Reply). session_of (c ∷ []) (x ∷ []) (desk_state new).needs_reopen ≡ no_session)
+        (sym (it.asks.1 stopped)) (waited_session c (desk_state new).needs_reopen)
 
-    pub command_waits : (IsTrue (desk_state old).needs_reopen → new ≡ old) → IsTrue (desk_state old).needs_reopen
-        → (new ≡ old) × (session_of (c ∷ []) (r ∷ []) (desk_state new).needs_reopen ≡ no_session)
-    command_waits same stopped = (
-      same stopped,
-      subst (λ (x : Reply). session_of (c ∷ []) (x ∷ []) (desk_state new).needs_reopen ≡ no_session)
-          (sym (waits_of (desk_state old) (desk_state new) c r turn stopped)) (waited_session c (desk_state new).needs_reopen),
-    )
-
-    pub command_crash : (IsTrue (desk_state old).needs_reopen → new ≡ old) → (HoldsOwnEvent g old
-        → RecoversJust (state g old) (placed_of (desk_state old)))
-        → (HoldsOwnEvent g old → OnOk r (RecoversJust (state g new) (placed_of (desk_state new))))
-        → (IsFalse (desk_state old).needs_reopen → HoldsOwnEvent g old → RecoversEither (state g new) (placed_of (desk_state old)) c)
-        → (HoldsOwnEvent g old
-        → IfErr r (λ _. IsFalse (desk_state new).needs_reopen → RecoversJust (state g new) (placed_of (desk_state old))))
-        → HoldsOwnEvent g old
+    command_crash : HoldsOwnEvent g old
         → RecoversEnd (state g new) (placed_of (desk_state old)) (session_of (c ∷ []) (r ∷ []) (desk_state new).needs_reopen)
-    command_crash same left done in_doubt refused shows clean trees may = by_start (desk_state old).needs_reopen refl
+    command_crash shows clean trees may = by_start (desk_state old).needs_reopen refl
       where
         by_stop : IsFalse (desk_state old).needs_reopen → (b : Bool) → (desk_state new).needs_reopen ≡ b
             → IsStoredEnd (placed_of (desk_state old)) (session_of (c ∷ []) (r ∷ []) (desk_state new).needs_reopen) trees
         by_stop runs true is = subst (λ (b : Bool). IsStoredEnd (placed_of (desk_state old)) (session_of (c ∷ []) (r ∷ []) b) trees)
             (sym is)
             (session_stops (desk_state old) (desk_state old) (desk_state new) [] [] c r trees refl refl
-            (stops_now (desk_state old) (desk_state new) c r runs is turn) (in_doubt runs shows clean trees may))
+            (stops_now (desk_state old) (desk_state new) c r runs is it.turn) (it.in_doubt runs shows clean trees may))
         by_stop runs false is = subst (λ (b : Bool). IsStoredEnd (placed_of (desk_state old)) (session_of (c ∷ []) (r ∷ []) b) trees)
             (sym is)
-            (session_goes_on (desk_state old) (desk_state new) (c ∷ []) (r ∷ []) trees (desk_state new, turn, refl)
-            (turn_version (desk_state old) (desk_state new) c r turn)
-            (stored_now r turn (done shows) (refused shows) is clean trees may))
+            (session_goes_on (desk_state old) (desk_state new) (c ∷ []) (r ∷ []) trees (desk_state new, it.turn, refl) it.as_call.version
+            (stored_now r (it.acknowledged shows) it.same (it.refused shows) is clean trees may))
 
         by_start : (b : Bool) → (desk_state old).needs_reopen ≡ b
             → IsStoredEnd (placed_of (desk_state old)) (session_of (c ∷ []) (r ∷ []) (desk_state new).needs_reopen) trees
-        by_start true is =
-            let waited = command_waits same is in
-            subst (λ (s : Session). IsStoredEnd (placed_of (desk_state old)) s trees) (sym waited.1)
-            (quiet_end (placed_of (desk_state old)) trees
-            (subst (λ (d : Desk S g). RecoversJust (state g d) (placed_of (desk_state old))) (sym waited.0) (left shows) clean trees may))
+        by_start true is = subst (λ (s : Session). IsStoredEnd (placed_of (desk_state old)) s trees) (sym (command_idle is))
+            (quiet_end (placed_of (desk_state old)) trees (it.refused shows (it.as_call.waits is) clean trees may))
         by_start false is = by_stop is (desk_state new).needs_reopen refl
+
+    -- what one command does to the file
+    pub submits_ask : Asks g old (session_of (c ∷ []) (r ∷ []) (desk_state new).needs_reopen) new
+    submits_ask = record {
+      as_call = it.as_call;
+      idle = command_idle;
+      leads = runs_lead (desk_state old) (desk_state new) (c ∷ []) (r ∷ []) (desk_state new, it.turn, refl);
+      sure = λ runs. rw runs refl;
+      kept = λ none now shows. unless_kept r (KeepsTables (state g old) (state g new)) none (it.kept now);
+      crash = command_crash;
+    }
 
 -- ---- two
 
@@ -144,83 +139,81 @@ module _ {S : Type 0} (g : Ghosts S) (old mid new : Desk S g) (s t : Session) (o
   ran runs = by_stop (desk_state mid).needs_reopen refl
     where
       by_stop : (b : Bool) → (desk_state mid).needs_reopen ≡ b → IsFalse (desk_state mid).needs_reopen
-      by_stop true is = absurd (true≢false (sym (ap (λ (d : Desk S g). (desk_state d).needs_reopen) (two.waits is).0 ∙ is) ∙ runs))
+      by_stop true is = absurd (true≢false (sym (ap (λ (d : Desk S g). (desk_state d).needs_reopen) (two.as_call.waits is) ∙ is) ∙ runs))
       by_stop false is = is
 
-  both_wait : IsTrue (desk_state old).needs_reopen → (new ≡ old) × (join_sessions s t ≡ no_session)
-  both_wait stopped =
-      let before = one.waits stopped in
-      let after = two.waits (ap (λ (d : Desk S g). (desk_state d).needs_reopen) before.0 ∙ stopped) in (
-        after.0 ∙ before.0,
-        subst (λ (a : Session). join_sessions a t ≡ no_session) (sym before.1)
-            (subst (λ (b : Session). join_sessions no_session b ≡ no_session) (sym after.1) refl),
-      )
+  still_stopped : IsTrue (desk_state old).needs_reopen → IsTrue (desk_state mid).needs_reopen
+  still_stopped stopped = ap (λ (d : Desk S g). (desk_state d).needs_reopen) (one.as_call.waits stopped) ∙ stopped
+
+  both_call : DeskCall g old new
+  both_call = record {
+    waits = λ stopped. two.as_call.waits (still_stopped stopped) ∙ one.as_call.waits stopped;
+    clean = λ clean. one.as_call.clean (two.as_call.clean clean);
+    represents = λ clean shows runs.
+        two.as_call.represents clean (one.as_call.represents (two.as_call.clean clean) shows (ran runs)) runs;
+    others = λ clean shows. keeps_more g old mid new one.as_call.version two.as_call.waits
+        (one.as_call.represents (two.as_call.clean clean) shows)
+        (one.as_call.others (two.as_call.clean clean) shows) (two.as_call.others clean);
+    version = two.as_call.version ∙ one.as_call.version;
+  }
+
+  both_idle : IsTrue (desk_state old).needs_reopen → join_sessions s t ≡ no_session
+  both_idle stopped = subst (λ (a : Session). join_sessions a t ≡ no_session) (sym (one.idle stopped))
+      (subst (λ (b : Session). join_sessions no_session b ≡ no_session) (sym (two.idle (still_stopped stopped))) refl)
 
   both_crash : HoldsOwnEvent g old → RecoversEnd (state g new) (placed_of (desk_state old)) (join_sessions s t)
   both_crash shows clean trees may = by_stop (desk_state mid).needs_reopen refl
     where
       by_stop : (b : Bool) → (desk_state mid).needs_reopen ≡ b → IsStoredEnd (placed_of (desk_state old)) (join_sessions s t) trees
-      by_stop true is =
-          let after = two.waits is in
-          subst (λ (x : Session). IsStoredEnd (placed_of (desk_state old)) x trees)
-          (sym (subst (λ (b : Session). join_sessions s b ≡ s) (sym after.1) (joined_none s)))
-          (one.crash shows (two.clean clean) trees (subst (λ (d : Desk S g). (state g d).may_leave trees) after.0 may))
+      by_stop true is = subst (λ (x : Session). IsStoredEnd (placed_of (desk_state old)) x trees)
+          (sym (subst (λ (b : Session). join_sessions s b ≡ s) (sym (two.idle is)) (joined_none s)))
+          (one.crash shows (two.as_call.clean clean) trees
+          (subst (λ (d : Desk S g). (state g d).may_leave trees) (two.as_call.waits is) may))
       by_stop false is =
           joined_end (point_of (desk_state old)) (point_of (desk_state mid)) s t one.leads (one.sure is) (version_in old) trees
-          (subst (λ (v : ℕ). IsStoredEnd (placed_at (point_of (desk_state mid)) v) t trees) one.version
-          (two.crash (one.represents (two.clean clean) shows is) clean trees may))
+          (subst (λ (v : ℕ). IsStoredEnd (placed_at (point_of (desk_state mid)) v) t trees) one.as_call.version
+          (two.crash (one.as_call.represents (two.as_call.clean clean) shows is) clean trees may))
 
   both_kept : (join_sessions s t).acknowledged ≡ [] → HasCleanDisk (state g new) → HoldsOwnEvent g old
       → KeepsTables (state g old) (state g new)
   both_kept none clean shows = by_stop (desk_state mid).needs_reopen refl
     where
       before : KeepsTables (state g old) (state g mid)
-      before = one.kept (none_first s.acknowledged t.acknowledged none) (two.clean clean) shows
+      before = one.kept (none_first s.acknowledged t.acknowledged none) (two.as_call.clean clean) shows
 
       by_stop : (b : Bool) → (desk_state mid).needs_reopen ≡ b → KeepsTables (state g old) (state g new)
-      by_stop true is = subst (λ (d : Desk S g). KeepsTables (state g old) (state g d)) (sym (two.waits is).0) before
+      by_stop true is = subst (λ (d : Desk S g). KeepsTables (state g old) (state g d)) (sym (two.as_call.waits is)) before
       by_stop false is = λ settled is_open.
-          let here = one.represents (two.clean clean) shows is in
+          let here = one.as_call.represents (two.as_call.clean clean) shows is in
           let first = before settled here.is_open in
           let later = two.kept (none_then s.acknowledged t.acknowledged none) clean here here.settled is_open in
           (later.0 ∙ first.0, later.1 ∙ first.0)
 
   pub asks_joined : Asks g old (join_sessions s t) new
   asks_joined = record {
-    waits = both_wait;
+    as_call = both_call;
+    idle = both_idle;
     leads = leads_then (point_of (desk_state old)) (point_of (desk_state mid))
         (point_of (desk_state new)) s.acknowledged t.acknowledged one.leads
         two.leads;
     sure = λ runs. later_alone s.in_doubt t.in_doubt (one.sure (ran runs)) ∙ two.sure runs;
-    clean = λ clean. one.clean (two.clean clean);
-    represents = λ clean shows runs. two.represents clean (one.represents (two.clean clean) shows (ran runs)) runs;
-    others = λ clean shows. keeps_more g old mid new one.version (λ stopped. (two.waits stopped).0) (one.represents (two.clean clean) shows)
-        (one.others (two.clean clean) shows) (two.others clean);
     kept = both_kept;
-    version = two.version ∙ one.version;
     crash = both_crash;
   }
 
 -- ---- nothing
 
 -- a desk that only reads
-pub reading_asks : {S : Type 0} (g : Ghosts S) (old new : Desk S g) → (IsTrue (desk_state old).needs_reopen → new ≡ old)
-    → point_of (desk_state new) ≡ point_of (desk_state old) → (HasCleanDisk (state g new) → HasCleanDisk (state g old))
-    → (HasCleanDisk (state g new) → HoldsOwnEvent g old → IsFalse (desk_state new).needs_reopen → HoldsOwnEvent g new)
-    → (HasCleanDisk (state g new) → HoldsOwnEvent g old → IsTrue (state g new).is_open
-    → KeepsOthers (version_in old) (state g old).now (state g new).now)
-    → (HasCleanDisk (state g new) → KeepsTables (state g old) (state g new))
-    → version_in new ≡ version_in old → (HoldsOwnEvent g old → RecoversJust (state g new) (placed_of (desk_state old)))
+pub reading_asks : {S : Type 0} (g : Ghosts S) (old new : Desk S g) → DeskCall g old new
+    → point_of (desk_state new) ≡ point_of (desk_state old) → (HasCleanDisk (state g new) → KeepsTables (state g old) (state g new))
+    → (HoldsOwnEvent g old → RecoversJust (state g new) (placed_of (desk_state old)))
     → Asks g old no_session new
-reading_asks g old new waits same clean represents others kept version crash = record {
-  waits = λ stopped. (waits stopped, refl);
+reading_asks g old new call same kept crash = record {
+  as_call = call;
+  idle = λ stopped. refl;
   leads = record { event = ap (λ (p : Point). p.event) same; serial = ap (λ (p : Point). p.serial) same ∙ omega arith };
   sure = λ runs. refl;
-  clean = clean;
-  represents = represents;
-  others = others;
   kept = λ none now shows. kept now;
-  version = version;
   crash = λ shows clean trees may. quiet_end (placed_of (desk_state old)) trees (crash shows clean trees may);
 }
 
@@ -228,8 +221,7 @@ reading_asks g old new waits same clean represents others kept version crash = r
 pub same_asks : {S : Type 0} (g : Ghosts S) (desk : Desk S g)
     → (HoldsOwnEvent g desk → RecoversJust (state g desk) (placed_of (desk_state desk)))
     → Asks g desk no_session desk
-same_asks g desk crash = reading_asks g desk desk (λ _. refl) refl (λ clean. clean) (λ clean shows runs. shows)
-    (λ clean shows is_open. keeps_self _ (state g desk).now) (λ clean. same_keeps (state g desk)) refl crash
+same_asks g desk crash = reading_asks g desk desk (same_call g desk) refl (λ clean. same_keeps (state g desk)) crash
 
 -- a desk whose store has read something
 module _ {S A : Type 0} (g : Ghosts S) (old new : Desk S g) (Fails : Refusal → Type 0) (read : Result A Refusal) where
@@ -241,47 +233,16 @@ module _ {S A : Type 0} (g : Ghosts S) (old new : Desk S g) (Fails : Refusal →
       → AfterCrash (state g new) (state g old).may_leave
       → (HoldsOwnEvent g old → RecoversJust (state g old) (placed_of (desk_state old))) → Asks g old no_session new
   read_asks runs same version stops clean still kept crash left =
-      reading_asks g old new (λ stopped. absurd (true≢false (sym stopped ∙ runs))) same clean
-      (λ now shows runs. subst (λ (p : Point). RepresentsNow (version_in new) (state g new) p.event p.serial) (sym same)
-      (still_shows (version_in old) (version_in new) (state g old) (state g new) old.event old.serial version shows (still now runs)))
-      (λ now shows is_open. read_others Fails read (desk_state new).needs_reopen (version_in old) (state g old) (state g new)
-      shows.settled is_open
-      stops (still now) (kept now))
-      (λ now. read_keeps Fails read (desk_state new).needs_reopen (state g old) (state g new) stops (still now) (kept now))
-      version (λ shows now trees may. left shows (clean now) trees (crash now trees may))
-
--- ---- one command, whole
-
--- a command that was kept is one
-unless_kept : (c : Command) (r : Reply) (P : Type 0) → acknowledged_commands (c ∷ []) (r ∷ []) ≡ [] → OnErr r P → P
-unless_kept c (Ok it) P none kept = absurd (cc)
-unless_kept c (Err why) P none kept = kept
-
-module _ {S : Type 0} (g : Ghosts S) (old new : Desk S g) (c : Command) (r : Reply)
-    (turn : Outcome (desk_state old) c r (desk_state new)) where
-  -- what one command does to the file
-  pub command_asks : (IsTrue (desk_state old).needs_reopen → new ≡ old) → (HasCleanDisk (state g new) → HasCleanDisk (state g old))
-      → (HasCleanDisk (state g new) → HoldsOwnEvent g old → IsFalse (desk_state new).needs_reopen → HoldsOwnEvent g new)
-      → (HasCleanDisk (state g new) → HoldsOwnEvent g old → IsTrue (state g new).is_open
-      → KeepsOthers (version_in old) (state g old).now (state g new).now)
-      → (HasCleanDisk (state g new) → OnErr r (KeepsTables (state g old) (state g new)))
-      → version_in new ≡ version_in old → (HoldsOwnEvent g old → RecoversJust (state g old) (placed_of (desk_state old)))
-      → (HoldsOwnEvent g old → OnOk r (RecoversJust (state g new) (placed_of (desk_state new))))
-      → (IsFalse (desk_state old).needs_reopen → HoldsOwnEvent g old → RecoversEither (state g new) (placed_of (desk_state old)) c)
-      → (HoldsOwnEvent g old
-      → IfErr r (λ _. IsFalse (desk_state new).needs_reopen → RecoversJust (state g new) (placed_of (desk_state old))))
-      → Asks g old (session_of (c ∷ []) (r ∷ []) (desk_state new).needs_reopen) new
-  command_asks waits clean represents others kept version left done in_doubt refused = record {
-    waits = command_waits g old new c r turn waits;
-    leads = command_leads g old new c r turn;
-    sure = command_sure g old new c r turn;
-    clean = clean;
-    represents = represents;
-    others = others;
-    kept = λ none now shows. unless_kept c r (KeepsTables (state g old) (state g new)) none (kept now);
-    version = version;
-    crash = command_crash g old new c r turn waits left done in_doubt refused;
-  }
+      reading_asks g old new (record {
+        waits = λ stopped. absurd (true≢false (sym stopped ∙ runs));
+        clean = clean;
+        represents = λ now shows runs. subst (λ (p : Point). RepresentsNow (version_in new) (state g new) p.event p.serial) (sym same)
+            (still_shows (version_in old) (version_in new) (state g old) (state g new) old.event old.serial version shows (still now runs));
+        others = λ now shows is_open. read_others Fails read (desk_state new).needs_reopen (version_in old) (state g old) (state g new)
+            shows.settled is_open stops (still now) (kept now);
+        version = version;
+      }) same (λ now. read_keeps Fails read (desk_state new).needs_reopen (state g old) (state g new) stops (still now) (kept now))
+      (λ shows now trees may. left shows (clean now) trees (crash now trees may))
 
 -- a refusal that leaves the desk as it is
 module _ {S : Type 0} (g : Ghosts S) (desk : Desk S g) (c : Command) where
@@ -292,18 +253,16 @@ module _ {S : Type 0} (g : Ghosts S) (desk : Desk S g) (c : Command) where
       no_more : desk.serial ≡ desk.serial + 1 → ⊥
       no_more is = omega (arith, is)
   refused_submits (Err why) turn left = record {
+    as_call = same_call g desk;
     turn = turn;
     stops = (stops_of _ _ _ _ turn, stopped_of _ _ _ _ turn);
     fault = turn_fault _ _ _ _ turn;
     asks = (turn_asks _ _ _ _ turn, waits_of _ _ _ _ turn);
-    asked = command_asks g desk desk c (Err why) turn (λ _. refl) (λ clean. clean) (λ clean shows runs. shows)
-        (λ clean shows is_open. keeps_self _ (state g desk).now) (λ clean. same_keeps (state g desk)) refl left (λ shows. tt)
-        (λ runs shows clean trees may. inl (left shows clean trees may)) (λ shows runs. left shows);
     same = λ runs. refl;
     kept = λ clean. same_keeps (state g desk);
     acknowledged = λ shows. tt;
     in_doubt = λ runs shows clean trees may. inl (left shows clean trees may);
-    refused = λ shows runs. left shows;
+    refused = λ shows same. left shows;
   }
 
 -- ---- a list of commands

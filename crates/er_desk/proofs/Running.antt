@@ -28,10 +28,6 @@ pub accepts_of : (old new : DeskState) (command : Command) (receipt : Receipt) �
     → Accepts old command (Ok receipt) new
 accepts_of old new command receipt h1 = grind (arith, common_steps)
 
--- a refusal leaves the event and its serial
-pub stays : (old new : DeskState) (command : Command) (why : Refusal) → Outcome old command (Err why) new → placed_of new ≡ placed_of old
-stays old new command why h1 = grind (arith, common_steps)
-
 pub stops_now : (old new : DeskState) (command : Command) (reply : Reply) → IsFalse old.needs_reopen → IsTrue new.needs_reopen
     → Outcome old command reply new → Stops old command reply new
 stops_now old new command reply runs stopped turn =
@@ -132,10 +128,6 @@ session_goes_on old new cs rs trees is same stored =
       inl (record { event = leads.event; serial = leads.serial; taken = tt }),
       subst (λ (v : ℕ). IsStoredAt (placed_at (point_of new) v) trees) same stored,
     )
-
--- a command leaves the version
-pub turn_version : (old new : DeskState) (command : Command) (reply : Reply) → Outcome old command reply new → new.version ≡ old.version
-turn_version old new command reply h1 = grind (arith, common_steps)
 
 pub was_running : (old new : DeskState) (command : Command) (reply : Reply) → IsFalse new.needs_reopen → Outcome old command reply new
     → IsFalse old.needs_reopen

@@ -1,6 +1,6 @@
 -- What a command does to a desk.
-use Rattle.std.proofs.{lemmas.Grind.common_steps, Common.{◌≡◌, ◌⊎◌, inl, inr, ℕ, ◌+◌, ◌<◌, eqb, Bool, cond, true, false, List, [], ◌∷◌}}
-use Rattle.std.proofs.Common.{Result, Ok, Err, IfOk, IfErr, OnOk, IsErrAnd, IsTrue, IsFalse, refl, sym, ap, subst, ◌∙◌, arith, true≢false}
+use Rattle.std.proofs.Common.{◌≡◌, ◌⊎◌, inl, inr, ℕ, ◌+◌, ◌<◌, eqb, Bool, cond, true, false, List, [], ◌∷◌}
+use Rattle.std.proofs.Common.{Result, Ok, Err, IfOk, IfErr, IsErrAnd, IsTrue, IsFalse, refl, sym, ap, subst, ◌∙◌, arith, true≢false}
 use Rattle.std.proofs.lemmas.Bool.Decides.{nat_tests}
 use Rattle.std.specs.List.{AllByRecursion}
 use Rattle.sqlite_trees.specs.declared.store.Store.{Ghosts}
@@ -14,7 +14,7 @@ use Rattle.er_rules.specs.{Late.is_late, Refusing.IsOfRules, Step.{Answers, Need
 use Rattle.er_store.specs.{Fault.IsFault, Reading.KeepsTables, Representing.{IsOther, HasTablesAt, KeepsOthers}, Layout.Layout}
 use Rattle.er_desk.specs.{Reply.{Reply, reply_to, receipt, IsDue}}
 use Rattle.er_desk.specs.{Desk.{DeskState, Outcome, Stops, HoldsOwnEvent, IsOwn, placed_of, state, desk_state}}
-use Rattle.er_desk.specs.{Headline.RecoversJust, inside.Taking.TakesChange, declared.desk.Desk.Desk}
+use Rattle.er_desk.specs.{Asking.DeskCall, Headline.RecoversJust, inside.Taking.TakesChange, declared.desk.Desk.Desk}
 
 -- ---- replies
 
@@ -244,6 +244,16 @@ unchanged_keeps old new same settled is_open = (same.0.now_is, same.0.committed_
 pub same_keeps : (s : State) → KeepsTables s s
 same_keeps s settled is_open = (refl, sym settled)
 
+-- of a desk that stays as it is
+pub same_call : {S : Type 0} (g : Ghosts S) (desk : Desk S g) → DeskCall g desk desk
+same_call g desk = record {
+  waits = λ stopped. refl;
+  clean = λ clean. clean;
+  represents = λ clean shows runs. shows;
+  others = λ clean shows is_open. keeps_self _ (state g desk).now;
+  version = refl;
+}
+
 pub on_error : {A E : Type 0} (r : Result A E) (P : Type 0) → P → IfErr r (λ _. P)
 on_error (Ok a) P p = tt
 on_error (Err e) P p = p
@@ -269,33 +279,16 @@ module _ {S : Type 0} (g : Ghosts S) (old new : Desk S g) (result : Reply) where
       same why (inl own) runs = own.0
       same why (inr is) runs = absurd (stops is.0 runs)
 
-  pub represents_after : HoldsOwnEvent g old → OnOk result (HoldsOwnEvent g new) → IsUnwritten → IsFalse (desk_state new).needs_reopen
-      → HoldsOwnEvent g new
-  represents_after shows done refused runs = grind (arith, common_steps)
-
-  pub leaves_refused : RecoversJust (state g old) (placed_of (desk_state old)) → IsUnwritten
-      → IfErr result (λ _. IsFalse (desk_state new).needs_reopen → RecoversJust (state g new) (placed_of (desk_state old)))
-  leaves_refused leaves refused = if_error _ _ result left refused
-    where
-      left : (why : Refusal) → Unwritten why → IsFalse (desk_state new).needs_reopen
-          → RecoversJust (state g new) (placed_of (desk_state old))
-      left why (inl own) runs =
-          subst (λ (d : Desk S g). RecoversJust (state g d) (placed_of (desk_state old))) (sym own.0) leaves
-      left why (inr is) runs = absurd (stops is.0 runs)
-
 -- a change for which memory runs out outside the store leaves all as it was
 pub untaken : {S : Type 0} (g : Ghosts S) (desk : Desk S g) (change : Change) (reply : Reply) (why : Refusal)
     → IsErrAnd reply (λ e. e ≡ why) → why ≡ Memory → (HoldsOwnEvent g desk → RecoversJust (state g desk) (placed_of (desk_state desk)))
     → TakesChange g desk change reply desk
 untaken g desk change (Ok r) why is memory left = absurd is
 untaken g desk change (Err e) why is memory left = record {
+  as_call = same_call g desk;
   taken = tt;
   refused = inl (refl, is ∙ memory);
-  clean = λ clean. clean;
-  written = λ clean shows. tt;
-  kept = λ clean at_rest is_open. (refl, sym at_rest);
-  others = λ clean shows is_open. keeps_self _ (state g desk).now;
-  version = refl;
+  kept = λ clean. same_keeps (state g desk);
   acknowledged = λ shows. tt;
   crash = λ shows clean trees may. inl (left shows clean trees may);
 }

@@ -27,22 +27,27 @@ later_in_doubt doubt (Some later) = Some later
 abbrev pub join_sessions : Session → Session → Session
 join_sessions one two = record { acknowledged = one.acknowledged ++ two.acknowledged; in_doubt = later_in_doubt one.in_doubt two.in_doubt }
 
--- Of a call that only reads, the session is `no_session`.
-pub record Asks {S : Type 0} (g : Ghosts S) (old : Desk S g) (session : Session) (new : Desk S g) : Type 0 where
-  -- a desk that was stopped stays as it is, and nothing is tried
-  pub waits : IsTrue (desk_state old).needs_reopen → (new ≡ old) × (session ≡ no_session)
-  -- the event is the fold of the acknowledged commands, and nothing is in doubt while the desk runs
-  pub leads : LeadsTo (point_of (desk_state old)) session.acknowledged (point_of (desk_state new))
-  pub sure : IsFalse (desk_state new).needs_reopen → session.in_doubt ≡ None
-  -- the disk was clean if it is, the tables represent the event, and those of others stay
+-- What a call says of the desk and its file, whatever it asks.
+pub record DeskCall {S : Type 0} (g : Ghosts S) (old new : Desk S g) : Type 0 where
+  -- a desk that was stopped stays as it is
+  pub waits : IsTrue (desk_state old).needs_reopen → new ≡ old
+  -- the disk was clean if it is, the tables represent the event, and those of others stay, in the version that they were in
   pub clean : HasCleanDisk (state g new) → HasCleanDisk (state g old)
   pub represents : HasCleanDisk (state g new) → HoldsOwnEvent g old → IsFalse (desk_state new).needs_reopen → HoldsOwnEvent g new
   pub others : HasCleanDisk (state g new) → HoldsOwnEvent g old → IsTrue (state g new).is_open
       → KeepsOthers (version_in old) (state g old).now (state g new).now
-  -- and all of them, if no command was kept
-  pub kept : session.acknowledged ≡ [] → HasCleanDisk (state g new) → HoldsOwnEvent g old → KeepsTables (state g old) (state g new)
-  -- in the version that they were in
   pub version : version_in new ≡ version_in old
+
+-- Of a call that only reads, the session is `no_session`.
+pub record Asks {S : Type 0} (g : Ghosts S) (old : Desk S g) (session : Session) (new : Desk S g) : Type 0 where
+  pub as_call : DeskCall g old new
+  -- of a desk that was stopped nothing is tried
+  pub idle : IsTrue (desk_state old).needs_reopen → session ≡ no_session
+  -- the event is the fold of the acknowledged commands, and nothing is in doubt while the desk runs
+  pub leads : LeadsTo (point_of (desk_state old)) session.acknowledged (point_of (desk_state new))
+  pub sure : IsFalse (desk_state new).needs_reopen → session.in_doubt ≡ None
+  -- no table changes, if no command was kept
+  pub kept : session.acknowledged ≡ [] → HasCleanDisk (state g new) → HoldsOwnEvent g old → KeepsTables (state g old) (state g new)
   -- a crash leaves an end of the session
   pub crash : HoldsOwnEvent g old → RecoversEnd (state g new) (placed_of (desk_state old)) session
 
@@ -52,24 +57,27 @@ AsksSome g old Does new = (session : Session) × Does (desk_state old) session (
 
 -- What handing one command to a desk does.
 pub record Submits {S : Type 0} (g : Ghosts S) (old : Desk S g) (command : Command) (reply : Reply) (new : Desk S g) : Type 0 where
+  pub as_call : DeskCall g old new
   pub turn : Outcome (desk_state old) command reply (desk_state new)
   -- A fault of the store stops the desk, and nothing else does. `NeedsReopen` comes exactly if it was stopped.
   pub stops : IsTrue (desk_state new).needs_reopen ↔ (IsTrue (desk_state old).needs_reopen ⊎ Stops (desk_state old) command reply
       (desk_state new))
   pub fault : (cause : Cause) → reply ≡ Err (StoreFault cause) → IsTrue (desk_state new).needs_reopen
   pub asks : (reply ≡ Err NeedsReopen) ↔ IsTrue (desk_state old).needs_reopen
-  -- a session of this one command
-  pub asked : Asks g old (session_of (command ∷ []) (reply ∷ []) (desk_state new).needs_reopen) new
   -- A refusal that isn't a fault of the store leaves all as it was, and none changes a table.
   pub same : IfErr reply (λ _. IsFalse (desk_state new).needs_reopen → new ≡ old)
   pub kept : HasCleanDisk (state g new) → OnErr reply (KeepsTables (state g old) (state g new))
   -- With a receipt a crash leaves the event after the command, after a fault of the store the event before or after it,
-  -- and else the event before it.
+  -- and the event before it if the desk stays as it was.
   pub acknowledged : HoldsOwnEvent g old → OnOk reply (RecoversJust (state g new) (placed_of (desk_state new)))
   pub in_doubt : IsFalse (desk_state old).needs_reopen → HoldsOwnEvent g old
       → RecoversEither (state g new) (placed_of (desk_state old)) command
-  pub refused : HoldsOwnEvent g old
-      → IfErr reply (λ _. IsFalse (desk_state new).needs_reopen → RecoversJust (state g new) (placed_of (desk_state old)))
+  pub refused : HoldsOwnEvent g old → new ≡ old → RecoversJust (state g new) (placed_of (desk_state old))
+
+-- to hand one command to a desk asks a session of this one command
+abbrev pub SubmitsAsk : {S : Type 0} → Ghosts S → Type 0
+SubmitsAsk {S} g = (old new : Desk S g) (command : Command) (reply : Reply) → Submits g old command reply new
+    → Asks g old (session_of (command ∷ []) (reply ∷ []) (desk_state new).needs_reopen) new
 
 -- two calls of a desk, one after the other, ask the two sessions in that order
 abbrev pub AsksThen : {S : Type 0} → Ghosts S → Type 0

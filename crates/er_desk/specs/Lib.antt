@@ -19,6 +19,8 @@
 --     store. After such a fault, and only then, the answer is `NeedsReopen`. `SerialFull` comes only in place of a receipt, and after it
 --     `BadSetup`, of an enrolment that is too late for tables of version 1 (`is_late` of er_rules).
 --   `Desk::run`: a list of commands, by `IsRun` and `Asks`.
+--   `Desk::submits_ask`, `asks_then`, `asks_nothing`: one command asks a session of its own, two calls ask the two sessions joined, and a
+--     desk that is only looked at asks nothing.
 --   `Desk::create`, by `CreatesDesk`, and `create_in_opened`, by `MakesFile`: a new event beside whatever the file holds.
 --   `Desk::adopt`, by `AdoptsDesk`, and `open`, `adopt_opened`, by `OpensFile`: what is found is sound, seeds too, with a serial of at most
 --     999,999; or the first fault is named. Nothing is written. Files that could not be opened come back as the storage crate leaves them

@@ -67,7 +67,7 @@ impl<S: Alter> Desk<S> {
     ghost use Rattle.er_desk.specs.Run.{Runs, IsRun, session_of};
     ghost use Rattle.er_desk.specs.Headline.{RecoversJust, RepeatsNobody, AreTheStandings};
     ghost use Rattle.er_desk.specs.Run.{no_session};
-    ghost use Rattle.er_desk.specs.Asking.{Asks, AsksThen, Submits};
+    ghost use Rattle.er_desk.specs.Asking.{Asks, AsksThen, Submits, SubmitsAsk};
     ghost use Rattle.er_desk.specs.Migrating.{MovesDesk};
     ghost use Rattle.er_desk.specs.inside.Taking.{TakesChange};
 
@@ -192,6 +192,11 @@ impl<S: Alter> Desk<S> {
     /// Two calls of a desk, one after the other, ask the two sessions in that order. It is a law, with no code of its own.
     pub fn asks_then(&self)
         ensures { AsksThen S.Store }
+    {}
+
+    /// Handing one command to a desk asks a session of this one command. It is a law, with no code of its own.
+    pub fn submits_ask(&self)
+        ensures { SubmitsAsk S.Store }
     {}
 
     /// The version in which the tables are kept, 1 or 2, if no fault of the store came before.

@@ -12,4 +12,4 @@ pub returns-in-Submit-clause-asked : goal.returns-in-Submit-clause-asked
 returns-in-Submit-clause-asked g c = rw (c.in-Submit.is, c.reply_told.ensures)
     (subst (λ (replies : List Reply). Asks g.S.Store c.args.desk.now
     (session_of (c.in-Submit.command ∷ []) replies (desk_state c.submit.new.self).needs_reopen) c.submit.new.self)
-    (sym (replies_are_told c.submit.result)) c.submit.ensures.submits.asked)
+    (sym (replies_are_told c.submit.result)) (c.submits_ask.ensures _ _ _ _ c.submit.ensures.submits))

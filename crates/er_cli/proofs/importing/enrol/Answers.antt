@@ -13,7 +13,7 @@ returns-clause-asked g c =
     let new = c.submit.new.self in
     subst (λ (name : List ℕ).
     Asks g.S.Store c.args.desk.now (session_of (Enrol name ∷ []) (c.submit.result ∷ []) (desk_state new).needs_reopen) new)
-    (c.from-name.ensures ∙ (c.in-Ok.ensures.items ∙ c.as_bytes.ensures.value)) c.submit.ensures.submits.asked
+    (c.from-name.ensures ∙ (c.in-Ok.ensures.items ∙ c.as_bytes.ensures.value)) (c.submits_ask.ensures _ _ _ _ c.submit.ensures.submits)
 
 pub returns-in_default-clause-turn : goal.returns-in_default-clause-turn
 returns-in_default-clause-turn g c =

@@ -2,7 +2,7 @@ use Rattle.std.proofs.Common.{◌≡◌, ◌++◌, ◌∷◌, [], ◌+◌, List,
 use Rattle.std.proofs.lemmas.List.{take_all, take_more}
 use Rattle.er_event.specs.declared.commands.Command.{Command}
 use Rattle.er_desk.specs.{Reply.Reply, Desk.desk_state, Run.{Runs, Session, session_of}, Asking.Asks}
-use Rattle.er_desk.proofs.{Plain.runs_plain, Running.runs_push, Asking.{asks_joined, same_asks, session_push, empty_asks}}
+use Rattle.er_desk.proofs.{Plain.runs_plain, Running.runs_push, Asking.{asks_joined, submits_ask, same_asks, session_push, empty_asks}}
 use Rattle.er_desk.proofs.desk.Desk.run.Goals as goal
 
 refused : {A E : Type 0} (r : Result A E) (P : A → Type 0) {Q : Type 0} (W : E → Type 0) → IsErrAnd r W → Q → MatchResult r P (λ _. Q)
@@ -44,7 +44,7 @@ loop-command-preserved g c =
       room = omega (arith, inv.room, c.in-Ok.ensures.capacity);
       asked = rw (more, pushed) (subst (λ (s : Session). Asks g.S.Store first s new)
           (session_push (desk_state first) (desk_state old) (desk_state new) (take at items) rs cmd reply inv.ran took.turn)
-          (asks_joined g.S.Store first old new _ _ inv.asked took.asked));
+          (asks_joined g.S.Store first old new _ _ inv.asked (submits_ask g.S.Store old new cmd reply took)));
     }
 
 pub returns-in_err-replies-clause-asked : goal.returns-in_err-replies-clause-asked

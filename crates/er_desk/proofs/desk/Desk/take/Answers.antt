@@ -1,7 +1,7 @@
-use Rattle.std.proofs.Common.{◌≡◌, ◌<◌, ◌∙◌, inl, inr, IfErr, IsFalse, refl, sym, ap, arith, true≢false}
-use Rattle.er_desk.specs.{Desk.{HoldsOwnEvent, Outcome, placed_of, desk_state, state}, Headline.{RecoversJust, RecoversEither}}
-use Rattle.er_desk.proofs.{Asking.{command_asks, refused_submits}, Turns.{declined, full, too_late, written, turn_fault, turn_asks}}
-use Rattle.er_desk.proofs.Turns.{waits_of, stops_of, stopped_of, same_unless, represents_after, leaves_refused}
+use Rattle.std.proofs.Common.{◌≡◌, ◌<◌, ◌∙◌, inl, inr, refl, sym, ap, subst, arith}
+use Rattle.er_desk.specs.{declared.desk.Desk.Desk, Desk.{HoldsOwnEvent, Outcome, placed_of, desk_state, state}, Headline.RecoversJust}
+use Rattle.er_desk.proofs.{Asking.refused_submits, Turns.{declined, full, too_late, written, turn_fault, turn_asks}}
+use Rattle.er_desk.proofs.Turns.{waits_of, stops_of, stopped_of, same_unless}
 use Rattle.er_desk.proofs.desk.Desk.take.Goals as goal
 
 -- the desk was stopped
@@ -63,24 +63,19 @@ returns g c =
     let turn : Outcome (desk_state desk) command c.write.result (desk_state new) =
     written (desk_state desk) runs command (desk_state new) c.write.result _ (new ≡ desk) (λ same. ap desk_state same) taken
     room (rw c.version.ensures.value at (sym c.is_late.ensures ∙ c.if-is_late.false)) wrote.taken wrote.refused in
-    let in_doubt : IsFalse (desk_state desk).needs_reopen → HoldsOwnEvent g.S.Store desk
-    → RecoversEither (state g.S.Store new) (placed_of (desk_state desk)) command =
-    λ runs shows clean trees may. elim (wrote.crash shows clean trees may) [ inl old ↦ inl old | inr new ↦ inr (_, taken, new) ] in
-    let refused : HoldsOwnEvent g.S.Store desk
-    → IfErr c.write.result (λ _. IsFalse (desk_state new).needs_reopen → RecoversJust (state g.S.Store new) (placed_of (desk_state desk))) =
-    λ shows. leaves_refused g.S.Store desk new c.write.result (left shows) wrote.refused in
     record {
+      as_call = wrote.as_call;
       turn = turn;
       stops = (stops_of _ _ _ _ turn, stopped_of _ _ _ _ turn);
       fault = turn_fault _ _ _ _ turn;
       asks = (turn_asks _ _ _ _ turn, waits_of _ _ _ _ turn);
-      asked = command_asks g.S.Store desk new command c.write.result turn
-          (λ stopped. absurd (true≢false (sym stopped ∙ runs))) wrote.clean
-          (λ clean shows. represents_after g.S.Store desk new c.write.result shows (wrote.written clean shows) wrote.refused)
-          wrote.others wrote.kept wrote.version left wrote.acknowledged in_doubt refused;
       same = same_unless g.S.Store desk new c.write.result wrote.refused;
       kept = wrote.kept;
       acknowledged = wrote.acknowledged;
-      in_doubt = in_doubt;
-      refused = refused;
+      in_doubt = λ runs shows clean trees may. elim (wrote.crash shows clean trees may) [
+        | inl old ↦ inl old
+        | inr new ↦ inr (_, taken, new)
+      ];
+      refused = λ shows same. subst (λ (d : Desk _ g.S.Store). RecoversJust (state g.S.Store d) (placed_of (desk_state desk))) (sym same)
+          (left shows);
     }

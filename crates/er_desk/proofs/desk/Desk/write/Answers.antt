@@ -1,4 +1,4 @@
-use Rattle.std.proofs.{Common.{◌+◌, ◌∙◌, ℕ, inr, refl, sym, subst}, Math.Logic.∥∥₁_map}
+use Rattle.std.proofs.{Common.{◌+◌, ◌∙◌, ℕ, inr, refl, sym, subst, true≢false}, Math.Logic.∥∥₁_map}
 use Rattle.er_event.specs.Event.{EventValue}
 use Rattle.er_rules.specs.Sound.{IsSound}
 use Rattle.er_store.specs.Representing.{IsStoredIn, RepresentsNow}
@@ -23,21 +23,24 @@ returns-in-Ok g c =
     let wrote = c.write.ensures in
     let same = sym c.in_ok-next.ensures.ok in
     record {
+      as_call = record {
+        waits = λ stopped. absurd (true≢false (sym stopped ∙ c.requires.runs));
+        clean = wrote.as_call.call.clean;
+        represents = λ clean shows runs. subst (λ (v : ℕ). RepresentsNow v (tables.store_state g.S.Store c.write.new.self) c.in_ok-next.next
+            (old.serial + 1)) (sym wrote.version)
+            (subst (λ (e : EventValue). RepresentsNow (version_in old) (tables.store_state g.S.Store c.write.new.self) e
+            (old.serial + 1)) same
+            (c.in-Ok.ensures.written clean shows));
+        others = wrote.others;
+        version = wrote.version;
+      };
       taken = (
         desk_state_same _ _ _ _ _ _ _ c.in_ok-next.ensures.ok wrote.version
             (c.in-Ok.ensures.as_call.stops c.requires.runs ∙ sym c.requires.runs),
         refl,
       );
       refused = tt;
-      clean = wrote.as_call.call.clean;
-      written = λ clean shows. subst (λ (v : ℕ). RepresentsNow v (tables.store_state g.S.Store c.write.new.self) c.in_ok-next.next
-          (old.serial + 1)) (sym wrote.version)
-          (subst (λ (e : EventValue). RepresentsNow (version_in old) (tables.store_state g.S.Store c.write.new.self) e
-          (old.serial + 1)) same
-          (c.in-Ok.ensures.written clean shows));
       kept = λ clean. tt;
-      others = wrote.others;
-      version = wrote.version;
       acknowledged = λ shows clean trees may.
           subst (λ (v : ℕ). IsStoredIn v c.in_ok-next.next (old.serial + 1) trees) (sym wrote.version)
           (subst (λ (e : EventValue). IsStoredIn (version_in old) e (old.serial + 1) trees) same
@@ -51,13 +54,16 @@ returns-in-Err g c =
     let wrote = c.write.ensures in
     let stops = c.in-Err.ensures.as_call.stops c.requires.runs in
     record {
+      as_call = record {
+        waits = λ stopped. absurd (true≢false (sym stopped ∙ c.requires.runs));
+        clean = wrote.as_call.call.clean;
+        represents = λ clean shows runs. absurd (true≢false (sym stops.1 ∙ runs));
+        others = wrote.others;
+        version = wrote.version;
+      };
       taken = tt;
       refused = inr (desk_state_same _ _ _ _ _ _ _ refl wrote.version stops.1, stops.0);
-      clean = wrote.as_call.call.clean;
-      written = λ clean shows. tt;
       kept = c.in-Err.ensures.as_call.call.kept;
-      others = wrote.others;
-      version = wrote.version;
       acknowledged = λ shows. tt;
       crash = wrote.crash c.requires.runs;
     }
