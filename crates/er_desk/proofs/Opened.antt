@@ -8,15 +8,16 @@ use Rattle.sqlite.specs.{Effect.{Database, IsDatabase}, State.{Opens, IsLive, Ha
 use Rattle.sqlite.specs.Files.{AreFoundIn, FailsToOpenFiles, IsCleanLeft, LeavesFiles, file_state, image_of, over_files}
 use Rattle.sqlite.specs.declared.{error.Error.Error, error.Error.TheVariants.SqliteFailure, file.Leftover.Leftover}
 use Rattle.sqlite.specs.declared.error.ErrorCode.TheVariants.{CannotOpen, DatabaseBusy, OutOfMemory}
-use Rattle.er_event.specs.{Event.EventValue, Sound.AreLimits, declared.refusals.Refusal.Refusal}
-use Rattle.er_store.specs.Representing.{CanRead, HasTables, AreKeyed, RepresentsIn, IsStoredIn}
+use Rattle.er_event.specs.{Change.initial_event, Event.EventValue, Sound.AreLimits, declared.refusals.Refusal.Refusal}
+use Rattle.er_store.specs.Representing.{CanRead, HasTables, AreKeyed, RepresentsIn, RepresentsNow, IsStoredIn}
 use Rattle.std.proofs.Math.Logic.{∥∥₁_elim}
 use Rattle.sqlite_trees.specs.Props.{Trees-set}
 use Rattle.er_desk.specs.declared.desk.Desk.{Desk}
 use Rattle.er_desk.specs.declared.opening.OpenFault.{OpenFault}
 use Rattle.er_desk.specs.declared.opening.OpenFault.TheVariants.{Unopened, Refused}
 use Rattle.er_desk.specs.Begins.{HasAdopted, HasNotAdopted, HasCreated, HasNotCreated}
-use Rattle.er_desk.specs.{Desk.{Placed, IsStoredAt, state, version_in}, Headline.Recovers, Files.{HasOpened, HasNotOpened, OpensFile, HasMade, HasNotMade, MakesFile}}
+use Rattle.er_desk.specs.Desk.{DeskState, Placed, HoldsOwnEvent, IsStoredAt, state, version_in}
+use Rattle.er_desk.specs.{Headline.Recovers, Files.{HasOpened, HasNotOpened, OpensFile, HasMade, HasNotMade, MakesFile}}
 use Rattle.er_desk.specs.Opening.{FromOpened, OpensImage, SparesAt}
 use Rattle.er_desk.proofs.Adopting.{is_fault, opened_represents, opened_empty, opened_awaits, sees_unchanged, sees_kept}
 
@@ -28,20 +29,20 @@ module _ {D : Type 0} {g : Ghosts D} (image : Image) where
         → IsDatabase db → IsStoredIn v e n db.trees → RepresentsIn v db e n) where
       adopted : (desk : Desk (FileStore D g) over_files) → HasAdopted over_files (file_state conn) desk → HasOpened image desk
       adopted desk it = record {
-        ready = it.ready;
-        sound = it.sound;
+        ready = it.tables.ready;
+        sound = (it.sound, it.tables.low);
         repeats = it.repeats;
         found = λ placed was sound clean.
             it.found placed
             (opened_represents (file_state conn) _ (opened (it.left.clean clean)) (found (it.left.clean clean)) placed law was) sound
             clean;
         represents = λ clean has keyed.
-            let same = it.same clean in
-            it.represents clean (subst (λ (d : Database). HasTables (version_in desk) d.schema) same.0.now_is has)
+            let same = it.tables.same clean in
+            it.tables.represents clean (subst (λ (d : Database). HasTables (version_in desk) d.schema) same.0.now_is has)
             (subst (AreKeyed (version_in desk)) same.0.now_is keyed);
         kept = λ db holds clean is_open.
             sees_unchanged (file_state conn) _ (opened (it.left.clean clean)) (found (it.left.clean clean)) (state over_files desk) db
-            holds (it.same clean);
+            holds (it.tables.same clean);
         left = λ db holds clean trees may.
             let early = it.left.clean clean in
             it.left.left (opened early).0.is_open clean trees may ∙ (found early).holds db holds;
@@ -82,19 +83,25 @@ module _ {D : Type 0} {g : Ghosts D} (image : Image) where
       has_event early placed was = reads placed.version (file_state conn).now placed.point.event placed.point.serial
           (opened_represents (file_state conn) image (opened early) (found early) placed law was)
 
+      -- the tables represent the new event, so they represent the desk's
+      own_event : (desk : Desk (FileStore D g) over_files) → HasCreated over_files name rounds cut (file_state conn) desk
+          → RepresentsNow 2 (state over_files desk) (initial_event name rounds cut) 0 → HoldsOwnEvent over_files desk
+      own_event desk it shows =
+          subst (λ (s : DeskState). RepresentsNow s.version (state over_files desk) s.event s.serial) (sym it.made) shows
+
       created : (desk : Desk (FileStore D g) over_files) → HasCreated over_files name rounds cut (file_state conn) desk
           → HasMade image name rounds cut desk
       created desk it = record {
         made = it.made;
         alone = λ nothing clean.
             let early = it.clean clean in
-            it.alone clean (opened_empty (file_state conn) image (opened early) (found early) nothing);
+            it.tables.alone clean (opened_empty (file_state conn) image (opened early) (found early) nothing);
         created = λ awaits clean.
             let early = it.clean clean in
-            it.created clean (opened_awaits (file_state conn) image (opened early) (found early) awaits);
+            own_event desk it (it.tables.created clean (opened_awaits (file_state conn) image (opened early) (found early) awaits));
         acknowledged = λ awaits clean.
             let early = it.clean clean in
-            it.acknowledged (opened_awaits (file_state conn) image (opened early) (found early) awaits) clean;
+            it.tables.acknowledged (opened_awaits (file_state conn) image (opened early) (found early) awaits) clean;
         beside = λ db holds clean.
             let early = it.clean clean in
             let live = opened early in
@@ -102,9 +109,9 @@ module _ {D : Type 0} {g : Ghosts D} (image : Image) where
               old = (file_state conn).now;
               is = ap (λ (d : Database). d.trees) live.0.clean ∙ (found early).holds db holds;
               sound = (live.1 live.0.is_open).0;
-              shows = it.beside clean;
+              shows = it.tables.beside clean;
             };
-        absent = λ placed was clean. it.absent clean (has_event (it.clean clean) placed was);
+        absent = λ placed was clean. (it.tables.absent clean).0 (has_event (it.clean clean) placed was);
       }
 
       not_created : AreLimits rounds cut → (back : Held (FileStore D g)) (why : Refusal)

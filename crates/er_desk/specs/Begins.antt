@@ -1,43 +1,31 @@
 -- How a desk begins: with an event that is made, or with one that is taken over.
-use Rattle.std.specs.Prelude.{◌≡◌, ◌⊎◌, ◌≤◌, ℕ, List, false, Result, MatchResult, IsFalse}
+use Rattle.std.specs.Prelude.{◌≡◌, ◌⊎◌, ℕ, List, false, Result, MatchResult}
 use Rattle.sqlite.specs.Held as sqlite
 use Rattle.sqlite.specs.Held.{Held}
 use Rattle.sqlite.specs.State.{State, HasCleanDisk, IsUnchanged}
 use Rattle.sqlite_trees.specs.declared.store.Store.{Ghosts}
 use Rattle.er_event.specs.Change.{initial_event}
 use Rattle.er_event.specs.Sound.{AreLimits, IsSoundButForSeeds}
-use Rattle.er_event.specs.declared.commands.TheConstants.{MAX_SERIAL}
 use Rattle.er_event.specs.declared.refusals.Place.TheVariants.{BracketTable}
 use Rattle.er_event.specs.declared.refusals.Refusal.{Refusal}
 use Rattle.er_event.specs.declared.refusals.Refusal.TheVariants.{BadSetup, EventExists, NoEvent, Damaged}
 use Rattle.er_rules.specs.Sound.{IsSound, HasSeeds}
-use Rattle.er_store.specs.Begins.{alone_schema}
-use Rattle.er_store.specs.Beside.{HoldsBeside, NoneAwaitsFive}
+use Rattle.er_store.specs.Begins.{IsCreated, IsAdopted}
 use Rattle.er_store.specs.Fault.{IsFault, IsLoadFault}
-use Rattle.er_store.specs.Loading.{HoldsEvent}
-use Rattle.er_store.specs.Representing.{HasTables, AreKeyed, Represents, RepresentsIn, CanRead}
+use Rattle.er_store.specs.Representing.{Represents, RepresentsIn, CanRead}
 use Rattle.er_desk.specs.declared.desk.Desk.{Desk}
-use Rattle.er_desk.specs.Desk.{Point, Placed, HoldsOwnEvent, placed_at, running_at, state, desk_state, version_in}
-use Rattle.er_desk.specs.Headline.{IsEmptyFile, RecoversJust, FindsAgain, RepeatsNobody}
+use Rattle.er_desk.specs.Desk.{Point, Placed, running_at, state, desk_state}
+use Rattle.er_desk.specs.Headline.{IsEmptyFile, FindsAgain, RepeatsNobody}
 use Rattle.er_desk.specs.History.{new_point}
 use Rattle.er_desk.specs.Opening.{ChangesNothing, MakesNothing, NamesFirstFault}
 
--- The event was made with these limits, in version 2.
+-- The event was made with these limits, and its tables in version 2.
 pub record HasCreated {S : Type 0} (g : Ghosts S) (name : List ℕ) (rounds cut : ℕ) (old : State) (desk : Desk S g) : Type 0 where
   pub within : AreLimits rounds cut
   pub made : desk_state desk ≡ running_at (new_point name rounds cut) 2
   pub sound : IsSound desk.event
-  pub version : version_in desk ≡ 2
   pub clean : HasCleanDisk (state g desk) → HasCleanDisk old
-  -- nothing called `event` could be read before; whatever stood in the file stands as it was, and the event's tables are
-  -- there beside it, after a crash too
-  pub absent : HasCleanDisk (state g desk) → CanRead old.now.schema → ⊥
-  pub beside : HasCleanDisk (state g desk) → HoldsBeside 2 (initial_event name rounds cut) old.now (state g desk)
-  -- in an empty file they are the only ones
-  pub alone : HasCleanDisk (state g desk) → IsEmptyFile old → (state g desk).now.schema ≡ alone_schema 2
-  -- if no foreign key waited for one of them they represent the new event, and so does each thing that a crash may leave
-  pub created : HasCleanDisk (state g desk) → NoneAwaitsFive 2 old.now.schema → HoldsOwnEvent g desk
-  pub acknowledged : NoneAwaitsFive 2 old.now.schema → RecoversJust (state g desk) (placed_at (new_point name rounds cut) 2)
+  pub tables : IsCreated g 2 (initial_event name rounds cut) old desk.store
 
 -- It was not, and the connection comes back.
 pub record HasNotCreated {S : Type 0} (g : Ghosts S) (name : List ℕ) (rounds cut : ℕ) (conn : Held S) (back : Held S × Refusal)
@@ -60,23 +48,15 @@ abbrev pub CreatesDesk : {S : Type 0} (g : Ghosts S) → List ℕ → (rounds cu
 CreatesDesk g name rounds cut conn result =
     MatchResult result (HasCreated g name rounds cut (sqlite.state g conn)) (HasNotCreated g name rounds cut conn)
 
--- The event was found, and the desk is not stopped. Whatever the tables hold, it is sound, and what they show.
+-- What the tables show was taken over, and its seeds are those of its standings. Whatever they hold, it is sound.
 pub record HasAdopted {S : Type 0} (g : Ghosts S) (old : State) (desk : Desk S g) : Type 0 where
-  pub ready : IsFalse (desk_state desk).needs_reopen
-  pub sound : IsSound desk.event × (desk.serial ≤ MAX_SERIAL)
+  pub tables : IsAdopted g old (desk.store, desk.event, desk.serial)
+  pub sound : IsSound desk.event
   pub repeats : RepeatsNobody desk.event
-  pub shows : HasCleanDisk (state g desk) → HasTables (version_in desk) old.now.schema
-      → HoldsEvent (version_in desk) old.now desk.event desk.serial
-  -- if they have the schema, they represent it
-  pub represents : HasCleanDisk (state g desk) → HasTables (version_in desk) old.now.schema
-      → AreKeyed (version_in desk) old.now → HoldsOwnEvent g desk
-  -- of tables that represent a sound event just that is found, in their version, with the seeds of its standings
+  -- of tables that represent a sound event just that is found, in their version
   pub found : (placed : Placed) → RepresentsIn placed.version old.now placed.point.event placed.point.serial → IsSound placed.point.event
       → HasCleanDisk (state g desk) → FindsAgain g desk placed
-  pub seeds : (point : Point) → Represents old.now point.event point.serial → IsSoundButForSeeds point.event
-      → (HasSeeds point.event → ⊥) → HasCleanDisk (state g desk) → ⊥
-  -- nothing is written, and a crash leaves what it could before: the last commit, while the connection was open
-  pub same : HasCleanDisk (state g desk) → IsUnchanged old (state g desk)
+  -- a crash leaves what it could before: the last commit, while the connection was open
   pub left : ChangesNothing old (state g desk)
 
 -- It was not, and the connection comes back. `NoEvent` and a damaged table come only for the first fault.

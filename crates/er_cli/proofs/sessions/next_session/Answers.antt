@@ -8,13 +8,13 @@ returns-in-Ok-adopt_file-clause-holds g c new first ends was may =
     let law = c.next_sessions.ensures in
     let it = c.in-Ok-adopt_file.ensures in
     let conn = c.in-Ok.conn in
-    ran_holds g.D.Disk law c.args.files new first ends was c.sessions_join.ensures c.in-Ok-adopt_file.desk it.ready
+    ran_holds g.D.Disk law c.args.files new first ends was c.sessions_join.ensures c.in-Ok-adopt_file.desk it.tables.ready
     (record {
       finds = λ clean. it.found first (represents_again g.D.Disk law c.args.files new first ends was conn c.in-Ok.ensures.opened
           c.in-Ok.ensures.found
           (it.left.clean clean) c.stored_represents.ensures) (law new first.point ends was.begins was.history).sound clean;
       sees = sees_still g.D.Disk law c.args.files new first ends was conn c.in-Ok-adopt_file.desk it.left.clean c.in-Ok.ensures.opened
-          c.in-Ok.ensures.found it.same;
+          c.in-Ok.ensures.found it.tables.same;
     })
     c.args.questions.items may c.hold.result.answers c.hold.result.files c.hold.ensures
 

@@ -47,11 +47,9 @@ returns-in-Ok-true g c =
     let opened = c.in_ok-store.ensures.found in
     let seeds : HasSeeds c.in_ok-store.event = c.in-Ok-true.ensures.0 c.in-Ok-true.field-0-test in
     record {
-      ready = opened.ready;
-      sound = (record { but_for_seeds = opened.sound; seeds = seeds }, opened.low);
+      tables = opened;
+      sound = record { but_for_seeds = opened.sound; seeds = seeds };
       repeats = opened.sound.rounds.no_repeats;
-      shows = opened.shows;
-      represents = opened.represents;
       found = λ placed represents sound clean.
           let event = placed.point.event in
           let serial = placed.point.serial in
@@ -68,9 +66,6 @@ returns-in-Ok-true g c =
                 subst (λ (v : ℕ). IsStoredIn v event serial trees) version
                 (opened.leaves event serial either sound.but_for_seeds late trees may);
           };
-      seeds = λ point represents sound none clean.
-          none (subst HasSeeds (opened.found clean point.event point.serial represents sound).0 seeds);
-      same = opened.same;
       left = unchanged_leaves_all (state g.S.Store c.args.conn) (tables.store_state g.S.Store c.in_ok-store.store)
           (λ db is_open may. g.met.S.Store.settled c.args.conn.store db is_open may) c.in_ok-store.ensures.call.clean
           opened.crash opened.same;

@@ -4,8 +4,7 @@ use Rattle.sqlite.specs.{Held.state, Tree.Trees}
 use Rattle.er_event.specs.declared.refusals.Refusal.{Refusal, TheVariants.{BadSetup, EventExists}}
 use Rattle.er_event.specs.{Event.EventValue, Change.initial_event, Sound.IsSoundButForSeeds}
 use Rattle.er_rules.specs.Sound.{IsSound, HasSeeds}
-use Rattle.er_store.specs.{Beside.{IsStoredBeside, HoldsBeside}, Fault.IsFault, Representing.{IsStoredIn, RepresentsNow}}
-use Rattle.er_store.specs.Store as tables
+use Rattle.er_store.specs.{Begins.IsCreated, Beside.IsStoredBeside, Fault.IsFault, Representing.IsStoredIn}
 use Rattle.er_desk.proofs.Turns.{same_keeps, desk_state_same}
 use Rattle.er_desk.proofs.desk.Desk.create.Goals as goal
 
@@ -89,16 +88,7 @@ returns g c =
       within = c.in-Ok.ensures.within.0 refl;
       made = desk_state_same _ _ _ _ _ _ _ c.in-Ok.ensures.value made.version made.ready;
       sound = new_sound _ _ _ _ c.in-Ok.ensures.value c.in-Ok.ensures.sound;
-      version = made.version;
       clean = c.in_ok-store.ensures.call.clean;
-      absent = λ clean. (made.absent clean).0;
-      beside = λ clean.
-          subst (λ (e : EventValue). HoldsBeside 2 e (state g.S.Store c.args.conn).now (tables.store_state g.S.Store c.in_ok-store.store))
-          c.in-Ok.ensures.value (made.beside clean);
-      alone = made.alone;
-      created = λ clean none.
-          subst (λ (v : ℕ). RepresentsNow v (tables.store_state g.S.Store c.in_ok-store.store) c.in-Ok.event 0) (sym made.version)
-          (made.created clean none);
-      acknowledged = λ none clean trees may.
-          subst (λ (e : EventValue). IsStoredIn 2 e 0 trees) c.in-Ok.ensures.value (made.acknowledged none clean trees may);
+      tables = subst (λ (e : EventValue). IsCreated g.S.Store 2 e (state g.S.Store c.args.conn) c.in_ok-store.store)
+          c.in-Ok.ensures.value made;
     }
