@@ -28,6 +28,9 @@
 --   `Desk::slip`, `stored_standings`, by `ReadsTables` and `FindsOwn`; `event`, `serial`, `standings`, unless a fault came before.
 --   `Desk::migrate`, by `MovesDesk`: the event and its serial stay.
 --   `laws::histories`, `next_sessions`, `histories_with_migrations`, `doubts`, `resuming`, `no_double_effect`: what many sessions come to.
+--   `laws::sessions_join`, `lists_grow`: two sessions lead and end where the two joined do, and the session of a list of commands, with
+--     that of one command more, is the session of the longer list.
+--   `laws::new_files_await_none`: no foreign key in a file that holds nothing names a table of the event.
 --
 -- Supposed: what er_store supposes, a creation that was acknowledged, and an opening that begins on what a crash may leave.
 --
