@@ -8,7 +8,7 @@ use Rattle.er_event.specs.declared.{commands.Command.TheVariants.{Result as Repo
 use Rattle.er_desk.specs.{Reply.Reply, Run.session_of}
 use Rattle.er_answers.specs.{Answers.{replies_of, session_at}, Question.reply_told}
 use Rattle.er_answers.specs.declared.question.{Question.TheVariants.Submit, Told.Told}
-use Rattle.er_slips.specs.{Answer.AnswerValue, Serving.{AnswersRequest, EndsServing, IsServed, IsUnserved, Serves}}
+use Rattle.er_slips.specs.{Response.ResponseValue, Serving.{AnswersRequest, EndsServing, IsServed, IsUnserved, Serves}}
 use Rattle.er_slips.specs.{declared.request.wanted.Request.Request}
 use Rattle.er_slips.specs.{declared.request.wanted.Request.TheVariants.{Standings, Pairings, Slip, Report}}
 use Rattle.er_slips.specs.declared.request.wanted.Fault.{Fault}
@@ -31,7 +31,7 @@ one_reply round table score told (Err why) is stopped =
 
 -- what serving a request does to the desk
 module _ (Represented : Type 0) (old : DeskState) (session : Session) (new : DeskState) where
-  asked_connects : (input : Option (List ℕ)) (asked : Result Request Fault) (answer : AnswerValue)
+  asked_connects : (input : Option (List ℕ)) (asked : Result Request Fault) (answer : ResponseValue)
       → IfSome input (λ xs. IsRequest xs asked) → AnswersRequest Represented old asked answer session new → Connects input old session new
   asked_connects input (Err fault) answer asks it = inl (it.2, it.1)
   asked_connects input (Ok Standings) answer wanted (told, it, message, nothing) = inr (inl (it.does.0, it.does.1, nothing))
@@ -41,7 +41,7 @@ module _ (Represented : Type 0) (old : DeskState) (session : Session) (new : Des
       let (reply, turn, is) = it.does in
       inr (inr (inr (round, table, score, reply, wanted, turn, asks ∙ one_reply round table score told reply is new.needs_reopen)))
 
-  served_connects : (input : Option (List ℕ)) (answer : AnswerValue)
+  served_connects : (input : Option (List ℕ)) (answer : ResponseValue)
       → IsServed Represented input old answer session new ⊎ IsUnserved input old answer session new → Connects input old session new
   served_connects input answer (inl (asked, is, answers)) = asked_connects input asked answer is answers
   served_connects input answer (inr it) = inl (it.3, it.2)

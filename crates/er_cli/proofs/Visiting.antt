@@ -8,7 +8,7 @@ use Rattle.er_event.specs.declared.commands.Command.{Command}
 use Rattle.er_desk.specs.{declared.desk.Desk.Desk, Desk.{DeskState, HoldsOwnEvent, desk_state, state}, Run.{Session, no_session}}
 use Rattle.er_desk.specs.Asking.{Asks, AsksThen, join_sessions, later_in_doubt}
 use Rattle.er_slips.specs.{declared.serve.Served.Served, declared.serve.Served.TheVariants.{Answered, ReadFault, WriteFault}}
-use Rattle.er_slips.specs.{Answer.AnswerValue, Serving.{AnswersRequest, EndsServing, IsServed, IsUnserved, Serves}}
+use Rattle.er_slips.specs.{Response.ResponseValue, Serving.{AnswersRequest, EndsServing, IsServed, IsUnserved, Serves}}
 use Rattle.er_slips.specs.{declared.request.wanted.Request.Request, declared.request.wanted.Fault.Fault}
 use Rattle.er_cli.specs.Clients.{Got, GetEach, GetsLast, IsNextClient, KnewBefore, ServesKnown, ServesSome, tells}
 
@@ -16,13 +16,13 @@ use Rattle.er_cli.specs.Clients.{Got, GetEach, GetsLast, IsNextClient, KnewBefor
 
 -- an answer that rests on this rests on what gives it to a desk that runs
 module _ (Is Sure : Type 0) (old : DeskState) (gives : Sure → IsFalse old.needs_reopen → Is) (session : Session) (new : DeskState) where
-  answers_by : (asked : Result Request Fault) (answer : AnswerValue) → AnswersRequest Is old asked answer session new
+  answers_by : (asked : Result Request Fault) (answer : ResponseValue) → AnswersRequest Is old asked answer session new
       → AnswersRequest Sure old asked answer session new
   answers_by (Err fault) answer it = it
   answers_by (Ok asked) answer (told, it, message, asks) =
       (told, record { does = it.does; due = λ sure runs. it.due (gives sure runs) runs }, message, asks)
 
-  served_by : (input : Option (List ℕ)) (answer : AnswerValue)
+  served_by : (input : Option (List ℕ)) (answer : ResponseValue)
       → IsServed Is input old answer session new ⊎ IsUnserved input old answer session new
       → IsServed Sure input old answer session new ⊎ IsUnserved input old answer session new
   served_by input answer (inl (asked, is, answers)) = inl (asked, is, answers_by asked answer answers)

@@ -26,8 +26,8 @@ use Rattle.er_slips.specs.declared.request.wanted.Fault.TheVariants.{BadRequest}
 use Rattle.er_slips.specs.{declared.serve.Served.Served, declared.serve.Served.TheVariants.{Answered, ReadFault, WriteFault}}
 use Rattle.er_slips.specs.{Request.{IsRequest, headed, headless, IsWholeRequest, next_of, asked_with, report_request}}
 use Rattle.er_slips.specs.{inside.Telling.TellsRequest}
-use Rattle.er_slips.specs.declared.answer.Answer.{Answer}
-use Rattle.er_slips.specs.Answer.{AnswerValue, IsMessage, answer_value, fault_answer, refusal_answer}
+use Rattle.er_slips.specs.declared.response.Response.{Response}
+use Rattle.er_slips.specs.Response.{ResponseValue, IsResponse, response_value, fault_response, refusal_response}
 use Rattle.er_slips.specs.Whole.{IsAnswered, submitted_command, IsAnswerUnless503, question_of}
 use Rattle.er_slips.specs.Serving.{AnswersRequest, IsServed, IsUnserved, Writes, EndsServing, IsWritten}
 
@@ -41,9 +41,9 @@ asks_session g old (Slip round table) told new it = it
 asks_session g old (Report round table score) told new it = it
 
 -- an answer that was made, or that memory ran out
-pub made_is : (made : Result Answer AllocError) (answer due : AnswerValue) → IfOk made (λ a. answer_value a ≡ due)
-    → MatchResult made (λ a. answer ≡ answer_value a) (λ _. answer ≡ refusal_answer Memory)
-    → (answer ≡ due) ⊎ (answer ≡ refusal_answer Memory)
+pub made_is : (made : Result Response AllocError) (answer due : ResponseValue) → IfOk made (λ a. response_value a ≡ due)
+    → MatchResult made (λ a. answer ≡ response_value a) (λ _. answer ≡ refusal_response Memory)
+    → (answer ≡ due) ⊎ (answer ≡ refusal_response Memory)
 made_is (Ok made) answer due of is = inl (is ∙ of)
 made_is (Err error) answer due of is = inr is
 
@@ -51,7 +51,7 @@ made_is (Err error) answer due of is = inr is
 
 module _ (Represented : Type 0) (input : Option (List ℕ)) (old : DeskState) (session : Session) (new : DeskState)
     (before after : Option (List ℕ))
-    (answer : AnswerValue) where
+    (answer : ResponseValue) where
   ends : (served : Served) → Writes before after served answer → IsServed Represented input old answer session new
       ⊎ IsUnserved input old answer session new
       → EndsServing Represented input old session new before after served
@@ -71,7 +71,7 @@ module _ (Represented : Type 0) (input : Option (List ℕ)) (old : DeskState) (s
 
   pub ends-refused : (served : Served) (why : NoRequest) (fault : Fault) → why ≡ Refused fault
       → IfSome input (λ xs. TellsRequest xs (Err why))
-      → answer ≡ fault_answer fault → session ≡ no_session → new ≡ old
+      → answer ≡ fault_response fault → session ≡ no_session → new ≡ old
       → Writes before after served answer → EndsServing Represented input old session new before after served
   ends-refused served why fault of told is nothing same wrote =
       ends served wrote (inl (
@@ -84,9 +84,9 @@ pub keeps : (known : Option (List ℕ)) → Keeps known known
 keeps h1 = grind (arith, common_steps)
 
 pub ends-unserved : (Represented : Type 0) (input : Option (List ℕ)) (old : DeskState) (before after : Option (List ℕ))
-    (answer : AnswerValue)
+    (answer : ResponseValue)
     (served : Served) (why : NoRequest) → why ≡ no_request.Memory → IfSome input (λ xs. TellsRequest xs (Err why))
-    → answer ≡ refusal_answer Memory → Writes before after served answer
+    → answer ≡ refusal_response Memory → Writes before after served answer
     → EndsServing Represented input old no_session old before after served
 ends-unserved Represented input old before after answer served why of told is wrote =
     ends Represented input old no_session old before after answer served wrote
@@ -105,7 +105,7 @@ there round table n rest asked e = by (nat_lt (length rest) n) refl e
     by true is e = absurd (true≢false (ap is_ok e))
     by false is e = grind (arith, nat_tests)
 
-module _ (old : DeskState) (session : Session) (new : DeskState) (input : List ℕ) (answer : AnswerValue)
+module _ (old : DeskState) (session : Session) (new : DeskState) (input : List ℕ) (answer : ResponseValue)
     (runs : IsFalse old.needs_reopen) where
   exact : (asked : Result Request Fault) → IsRequest input asked → IsAnswered old.event old.serial asked answer
       → IsAnswerUnless503 old.event old.serial input answer
@@ -131,11 +131,11 @@ module _ (old : DeskState) (session : Session) (new : DeskState) (input : List �
   whole asked (headless so e) = absurd (true≢false (ap is_ok e))
 
   module _ (asked : Request) (of : IsRequest input (Ok asked)) where
-    faulty : (why : Refusal) → IsFault why → answer ≡ refusal_answer why → IsAnswerUnless503 old.event old.serial input answer
+    faulty : (why : Refusal) → IsFault why → answer ≡ refusal_response why → IsAnswerUnless503 old.event old.serial input answer
     faulty why fault same = (let request = whole asked of in inr (why, fault, same, request.0, request.1))
 
     -- what is due, or no memory for its message
-    due_told : (told : Told) → IsDueAt 2 (point_of old) (question_of asked) told → IsMessage told answer
+    due_told : (told : Told) → IsDueAt 2 (point_of old) (question_of asked) told → IsResponse told answer
         → IsAnswerUnless503 old.event old.serial input answer
     due_told (Accepted receipt) due is = exact (Ok asked) of (Accepted receipt, due, is)
     due_told (Text text) due (inl is) = exact (Ok asked) of (Text text, due, is)
@@ -144,11 +144,11 @@ module _ (old : DeskState) (session : Session) (new : DeskState) (input : List �
     due_told (SlipText slip) due (inr full) = faulty Memory (inl refl) full
     due_told (Declined why) due is = exact (Ok asked) of (Declined why, due, is)
 
-    fault_told : (told : Told) (why : Refusal) → IsFault why → told ≡ Declined why → IsMessage told answer
+    fault_told : (told : Told) (why : Refusal) → IsFault why → told ≡ Declined why → IsResponse told answer
         → IsAnswerUnless503 old.event old.serial input answer
-    fault_told told why fault is message = faulty why fault (subst (λ (t : Told). IsMessage t answer) is message)
+    fault_told told why fault is message = faulty why fault (subst (λ (t : Told). IsResponse t answer) is message)
 
-    told_or_fault : (told : Told) → OrFault (IsDueAt 2 (point_of old) (question_of asked) told) told → IsMessage told answer
+    told_or_fault : (told : Told) → OrFault (IsDueAt 2 (point_of old) (question_of asked) told) told → IsResponse told answer
         → IsAnswerUnless503 old.event old.serial input answer
     told_or_fault told (inl due) message = due_told told due message
     told_or_fault told (inr (why, fault, is)) message = fault_told told why fault is message
@@ -161,7 +161,7 @@ module _ (old : DeskState) (session : Session) (new : DeskState) (input : List �
     in_time reply (Err why, refused, same) = (Err why, refused, same)
 
     reply_by : (told : Told) (reply : Reply) → IsLawfulReply old.version old.event old.serial (ReportResult round table score) reply
-        → told ≡ reply_told reply → IsMessage told answer → IsAnswerUnless503 old.event old.serial input answer
+        → told ≡ reply_told reply → IsResponse told answer → IsAnswerUnless503 old.event old.serial input answer
     reply_by told reply (inl due) is message =
         due_told (Report round table score) of told (reply, in_time reply due, is) message
     reply_by told reply (inr (inl full)) is message =
@@ -170,7 +170,7 @@ module _ (old : DeskState) (session : Session) (new : DeskState) (input : List �
         fault_told (Report round table score) of told why fault (is ∙ ap reply_told failed) message
 
   answered_at : (asked : Request) → IsRequest input (Ok asked) → (told : Told)
-      → IsAnswerAt old.version (point_of old) (question_of asked) told → IsMessage told answer
+      → IsAnswerAt old.version (point_of old) (question_of asked) told → IsResponse told answer
       → IsAnswerUnless503 old.event old.serial input answer
   answered_at Standings of told it message = told_or_fault Standings of told it message
   answered_at (Pairings round) of told it message = told_or_fault (Pairings round) of told it message

@@ -16,8 +16,8 @@ use Rattle.er_slips.specs.{declared.request.wanted.Fault.TheVariants.{NotFound, 
 use Rattle.er_slips.specs.declared.request.wanted.Methods.TheVariants as methods
 use Rattle.er_slips.specs.{Request.{route_of, path_of, asked_of}}
 use Rattle.er_slips.specs.Request.{report_request}
-use Rattle.er_slips.specs.Answer.{AnswerValue, fault_answer, refusal_answer, receipt_answer, slip_answer, text_answer}
-use Rattle.er_slips.specs.Answer.{message_of, status_of}
+use Rattle.er_slips.specs.Response.{ResponseValue, fault_response, refusal_response, receipt_response, slip_response, text_response}
+use Rattle.er_slips.specs.Response.{response_to, status_of}
 use Rattle.er_answers.specs.Question.{slip_told, text_told}
 use Rattle.er_event.specs.declared.commands.Command.TheVariants.{Result as ReportResult}
 use Rattle.er_slips.specs.declared.request.routes.Route.TheVariants as route
@@ -35,45 +35,45 @@ bytes_of_a_body = refl
 
 -- ---- whole answers
 
-abbrev answer : ℕ → List ℕ → AnswerValue
+abbrev answer : ℕ → List ℕ → ResponseValue
 answer status bytes = record { status = status; bytes = bytes }
 
-pub accepted : receipt_answer 7 ≡ answer 200 (codes "HTTP/1.1 200 OK\r\nContent-Type: application/json\r\nContent-Length: 12\r\nConnection: close\r\n\r\n{\"serial\":7}")
+pub accepted : receipt_response 7 ≡ answer 200 (codes "HTTP/1.1 200 OK\r\nContent-Type: application/json\r\nContent-Length: 12\r\nConnection: close\r\n\r\n{\"serial\":7}")
 unfolding digits
 accepted = refl
 
-pub not_allowed : fault_answer (NotAllowed methods.Get) ≡ answer 405
+pub not_allowed : fault_response (NotAllowed methods.Get) ≡ answer 405
     (codes "HTTP/1.1 405 Method Not Allowed\r\nAllow: GET\r\nContent-Type: application/json\r\nContent-Length: 30\r\nConnection: close\r\n\r\n{\"error\":\"method not allowed\"}")
 unfolding digits
 not_allowed = refl
 
-pub not_allowed_on_a_table : fault_answer (NotAllowed methods.GetAndPost) ≡ answer 405
+pub not_allowed_on_a_table : fault_response (NotAllowed methods.GetAndPost) ≡ answer 405
     (codes "HTTP/1.1 405 Method Not Allowed\r\nAllow: GET, POST\r\nContent-Type: application/json\r\nContent-Length: 30\r\nConnection: close\r\n\r\n{\"error\":\"method not allowed\"}")
 unfolding digits
 not_allowed_on_a_table = refl
 
-pub bad_request : fault_answer BadRequest ≡ answer 400
+pub bad_request : fault_response BadRequest ≡ answer 400
     (codes "HTTP/1.1 400 Bad Request\r\nContent-Type: application/json\r\nContent-Length: 23\r\nConnection: close\r\n\r\n{\"error\":\"bad request\"}")
 unfolding digits
 bad_request = refl
 
-pub not_found : fault_answer NotFound ≡ answer 404
+pub not_found : fault_response NotFound ≡ answer 404
     (codes "HTTP/1.1 404 Not Found\r\nContent-Type: application/json\r\nContent-Length: 21\r\nConnection: close\r\n\r\n{\"error\":\"not found\"}")
 unfolding digits
 not_found = refl
 
-pub too_large : fault_answer TooLarge ≡ answer 413
+pub too_large : fault_response TooLarge ≡ answer 413
     (codes "HTTP/1.1 413 Content Too Large\r\nContent-Type: application/json\r\nContent-Length: 26\r\nConnection: close\r\n\r\n{\"error\":\"body too large\"}")
 unfolding digits
 too_large = refl
 
 -- with the score that stands, in 67 bytes
-pub reported_again : refusal_answer (AlreadyReported (record { x = 2; y = 1; d = 0 })) ≡ answer 409
+pub reported_again : refusal_response (AlreadyReported (record { x = 2; y = 1; d = 0 })) ≡ answer 409
     (codes "HTTP/1.1 409 Conflict\r\nContent-Type: application/json\r\nContent-Length: 67\r\nConnection: close\r\n\r\n{\"name\":\"AlreadyReported\",\"refused\":14,\"score\":{\"a\":2,\"b\":1,\"d\":0}}")
 unfolding digits
 reported_again = refl
 
-pub no_memory : refusal_answer Memory ≡ answer 503
+pub no_memory : refusal_response Memory ≡ answer 503
     (codes "HTTP/1.1 503 Service Unavailable\r\nContent-Type: application/json\r\nContent-Length: 30\r\nConnection: close\r\n\r\n{\"name\":\"Memory\",\"refused\":24}")
 unfolding digits
 no_memory = refl
@@ -82,12 +82,12 @@ pub statuses : map status_of (NotSwiss ∷ NoSuchMatch ∷ BadScore ∷ IsBye �
     ≡ 409 ∷ 404 ∷ 409 ∷ 409 ∷ 409 ∷ 503 ∷ 503 ∷ 503 ∷ []
 statuses = refl
 
-pub a_slip : slip_answer (codes "{\"first\":{\"name\":\"Di\",\"no\":4},\"round\":1,\"score\":null,\"second\":{\"name\":\"Bo\",\"no\":2},\"table\":1}")
+pub a_slip : slip_response (codes "{\"first\":{\"name\":\"Di\",\"no\":4},\"round\":1,\"score\":null,\"second\":{\"name\":\"Bo\",\"no\":2},\"table\":1}")
     ≡ answer 200 (codes "HTTP/1.1 200 OK\r\nContent-Type: application/json\r\nContent-Length: 93\r\nConnection: close\r\n\r\n{\"first\":{\"name\":\"Di\",\"no\":4},\"round\":1,\"score\":null,\"second\":{\"name\":\"Bo\",\"no\":2},\"table\":1}")
 unfolding digits
 a_slip = refl
 
-pub a_text : text_answer (codes "ab") ≡ answer 200
+pub a_text : text_response (codes "ab") ≡ answer 200
     (codes "HTTP/1.1 200 OK\r\nContent-Type: text/plain; charset=utf-8\r\nContent-Length: 2\r\nConnection: close\r\n\r\nab")
 unfolding digits
 a_text = refl
@@ -201,14 +201,14 @@ friday = record {
   bracket = record { stages = [] };
 }
 
-pub slip_shown : message_of (slip_told (slip_of friday 1 1)) ≡ slip_answer
+pub slip_shown : response_to (slip_told (slip_of friday 1 1)) ≡ slip_response
     (slip_text (record { round = 1; table = 1; first = (4, codes "Di"); second = Some (2, codes "Bo"); score = None }))
 slip_shown = refl
 
-pub no_slip : message_of (slip_told (slip_of friday 1 3)) ≡ refusal_answer NoSuchMatch
+pub no_slip : response_to (slip_told (slip_of friday 1 3)) ≡ refusal_response NoSuchMatch
 no_slip = refl
 
-pub round_not_stored : message_of (text_told (pairings_text friday 9)) ≡ refusal_answer NoSuchMatch
+pub round_not_stored : response_to (text_told (pairings_text friday 9)) ≡ refusal_response NoSuchMatch
 round_not_stored = refl
 
 abbrev hand : Games → Command

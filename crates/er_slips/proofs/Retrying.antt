@@ -4,7 +4,7 @@ use Rattle.er_event.specs.{declared.refusals.Refusal.Refusal, declared.refusals.
 use Rattle.er_event.specs.{declared.scores.Games.Games, Event.EventValue}
 use Rattle.er_rules.specs.Retry.{IsRetryRefusal, NoDoubleEffect}
 use Rattle.er_desk.specs.Reply.{reply_to}
-use Rattle.er_slips.specs.{declared.request.wanted.Request.TheVariants.Report, Answer.{AnswerValue, message_of, refusal_answer}}
+use Rattle.er_slips.specs.{declared.request.wanted.Request.TheVariants.Report, Response.{ResponseValue, response_to, refusal_response}}
 use Rattle.er_answers.specs.Question.{reply_told}
 use Rattle.er_slips.specs.{Whole.IsAnswered, Retry.{HasScore, Retries}}
 use Rattle.er_slips.proofs.Unique.{one_asked}
@@ -27,22 +27,22 @@ module _ (later : EventValue) (round table : ℕ) (handed : Games) where
   IsRefused = (result : Result EventValue Refusal) → step.Steps later (ReportResult round table handed) result
       → (why : Refusal) × (result ≡ Err why) × IsRetryRefusal (ReportResult round table handed) why
 
-  abbrev IsToldAgain : AnswerValue → Type 0
-  IsToldAgain answer = ((stored : Games) × HasScore later round table stored × (answer ≡ refusal_answer (AlreadyReported stored)))
-      ⊎ (answer ≡ refusal_answer NotSwiss)
+  abbrev IsToldAgain : ResponseValue → Type 0
+  IsToldAgain answer = ((stored : Games) × HasScore later round table stored × (answer ≡ refusal_response (AlreadyReported stored)))
+      ⊎ (answer ≡ refusal_response NotSwiss)
 
-  refusal_for : (answer : AnswerValue) (why : Refusal) (result : Result EventValue Refusal)
-      → step.Steps later (ReportResult round table handed) result → result ≡ Err why → answer ≡ refusal_answer why
+  refusal_for : (answer : ResponseValue) (why : Refusal) (result : Result EventValue Refusal)
+      → step.Steps later (ReportResult round table handed) result → result ≡ Err why → answer ≡ refusal_response why
       → IsRetryRefusal (ReportResult round table handed) why → IsToldAgain answer
   refusal_for answer why result steps refused is (inl (stored, same)) =
-      inl (stored, stored_score handed stored later round table result steps (refused ∙ ap Err same), is ∙ ap refusal_answer same)
-  refusal_for answer why result steps refused is (inr same) = inr (is ∙ ap refusal_answer same)
+      inl (stored, stored_score handed stored later round table result steps (refused ∙ ap Err same), is ∙ ap refusal_response same)
+  refusal_for answer why result steps refused is (inr same) = inr (is ∙ ap refusal_response same)
 
-  answered : IsRefused → (serial : ℕ) (answer : AnswerValue) → IsAnswered later serial (Ok (Report round table handed)) answer
+  answered : IsRefused → (serial : ℕ) (answer : ResponseValue) → IsAnswered later serial (Ok (Report round table handed)) answer
       → IsToldAgain answer
   answered refused serial answer (told, (reply, (result, inl (steps, few), due), tells), same) =
       let it = refused result steps in
-      refusal_for answer it.0 result steps it.1 (same ∙ ap message_of (tells ∙ ap reply_told
+      refusal_for answer it.0 result steps it.1 (same ∙ ap response_to (tells ∙ ap reply_told
       (due ∙ ap (reply_to 2 later serial (ReportResult round table handed)) it.1))) it.2
   answered refused serial answer (told, (reply, (result, inr (over, needs), due), tells), same) = absurd needs
 

@@ -14,7 +14,7 @@ use Rattle.er_desk.specs.Reply.{Reply, IsDue, reply_to}
 use Rattle.er_slips.specs.declared.request.wanted.Request.TheVariants.{Standings, Pairings, Slip, Report}
 use Rattle.er_rank.specs.declared.rows.Row.{Row}
 use Rattle.er_answers.specs.{Due.IsDueAt, Question.reply_told, declared.question.{Told.Told, Told.TheVariants.Text}}
-use Rattle.er_slips.specs.{Answer.{AnswerValue, message_of}, Whole.{IsAnswered, OneAnswer, question_of, submitted_command}}
+use Rattle.er_slips.specs.{Response.{ResponseValue, response_to}, Whole.{IsAnswered, OneAnswer, question_of, submitted_command}}
 
 pub one_asked : (input : List ℕ) (r q : Result Request Fault) → IsRequest input r → IsRequest input q → r ≡ q
 one_asked input r q (headed h rest is e) (headed k more also f) =
@@ -49,10 +49,10 @@ module _ (standings : HasOneStandings) (step : OneStep) (event : EventValue) (se
   one_told (Report round table score) a b (reply, due, is) (other, same, also) =
       is ∙ ap reply_told (one_reply round table score reply other due same) ∙ sym also
 
-  one_answered : (asked : Result Request Fault) (a b : AnswerValue) → IsAnswered event serial asked a
+  one_answered : (asked : Result Request Fault) (a b : ResponseValue) → IsAnswered event serial asked a
       → IsAnswered event serial asked b → a ≡ b
   one_answered (Err fault) a b is also = is ∙ sym also
-  one_answered (Ok asked) a b (told, due, is) (other, same, also) = is ∙ ap message_of (one_told asked told other due same) ∙ sym also
+  one_answered (Ok asked) a b (told, due, is) (other, same, also) = is ∙ ap response_to (one_told asked told other due same) ∙ sym also
 
 pub one_answer : HasOneStandings → OneStep → OneAnswer
 one_answer standings step event serial input one other submits also sound is it =

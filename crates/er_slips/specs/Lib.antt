@@ -2,7 +2,7 @@
 -- that is cut; or a 503, if memory runs out or the store has a fault.
 --
 -- Whole is the answer to an input, and what is submitted for it. It stands on Request, which says what an input asks
--- for, by the checks in their order (Head and Routes are the first of them), and on Answer, which has each answer to
+-- for, by the checks in their order (Head and Routes are the first of them), and on Response, which has each answer to
 -- the byte. Serving is what one call does: to the desk, and to what is written. Retry is a score that is handed in
 -- again.
 --
@@ -22,7 +22,7 @@
 pub mod Head
 pub mod Routes
 pub mod Request
-pub mod Answer
+pub mod Response
 pub mod Whole
 pub mod Serving
 pub mod Retry

@@ -10,7 +10,7 @@ use Rattle.er_event.specs.Round.{match_at}
 use Rattle.er_rules.specs.Step.{Steps}
 use Rattle.er_rules.specs.Fold.{Folds}
 use Rattle.er_slips.specs.declared.request.wanted.Request.TheVariants.{Report}
-use Rattle.er_slips.specs.Answer.{AnswerValue, refusal_answer}
+use Rattle.er_slips.specs.Response.{ResponseValue, refusal_response}
 use Rattle.er_slips.specs.Request.{IsRequest}
 use Rattle.er_slips.specs.Whole.{IsAnswer}
 
@@ -23,7 +23,7 @@ HasScore event round table score = (stored : Match) × (match_at event round tab
 abbrev pub Retries : Type 0
 Retries = (event next later : EventValue) (more : List Command) (round table : ℕ) (handed : Games)
     → Steps event (ReportResult round table handed) (Ok next) → Folds next more later
-    → (serial : ℕ) (input : List ℕ) (answer : AnswerValue) (submits : Option Command)
+    → (serial : ℕ) (input : List ℕ) (answer : ResponseValue) (submits : Option Command)
     → IsRequest input (Ok (Report round table handed)) → IsAnswer later serial input answer submits
-    → ((stored : Games) × HasScore later round table stored × (answer ≡ refusal_answer (AlreadyReported stored)))
-    ⊎ (answer ≡ refusal_answer NotSwiss)
+    → ((stored : Games) × HasScore later round table stored × (answer ≡ refusal_response (AlreadyReported stored)))
+    ⊎ (answer ≡ refusal_response NotSwiss)

@@ -16,21 +16,21 @@ use Rattle.er_slips.specs.declared.serve.Served.{Served}
 use Rattle.er_slips.specs.declared.serve.Served.TheVariants.{Answered, ReadFault, WriteFault}
 use Rattle.er_slips.specs.declared.request.Next.TheVariants.{Body}
 use Rattle.er_slips.specs.Request.{IsRequest, IsWholeRequest}
-use Rattle.er_slips.specs.Answer.{AnswerValue, IsMessage, fault_answer, refusal_answer}
+use Rattle.er_slips.specs.Response.{ResponseValue, IsResponse, fault_response, refusal_response}
 use Rattle.er_slips.specs.Whole.{IsAnswerUnless503, question_of}
 
 -- ---- the desk
 
--- What is asked of the desk, the message that tells its answer, the session that it asks of the file, and the desk's state then.
+-- What is asked of the desk, the response that tells its answer, the session that it asks of the file, and the desk's state then.
 -- `Represented` is that its tables represented its event, on a clean disk: on this rests what is answered.
-abbrev pub AnswersRequest : Type 0 → DeskState → Result Request Fault → AnswerValue → Session → DeskState → Type 0
-AnswersRequest Represented old (Err fault) answer session new = (answer ≡ fault_answer fault) × (session ≡ no_session) × (new ≡ old)
+abbrev pub AnswersRequest : Type 0 → DeskState → Result Request Fault → ResponseValue → Session → DeskState → Type 0
+AnswersRequest Represented old (Err fault) answer session new = (answer ≡ fault_response fault) × (session ≡ no_session) × (new ≡ old)
 AnswersRequest Represented old (Ok request) answer session new =
-    (told : Told) × AnswersDesk Represented old (question_of request) told new × IsMessage told answer
+    (told : Told) × AnswersDesk Represented old (question_of request) told new × IsResponse told answer
     × (session ≡ session_at (question_of request) told new.needs_reopen)
 
 -- a desk is asked this, answers so, and its file takes the session
-pub record AnswersAsked {S : Type 0} (g : Ghosts S) (old : Desk S g) (asked : Request) (answer : AnswerValue) (new : Desk S g)
+pub record AnswersAsked {S : Type 0} (g : Ghosts S) (old : Desk S g) (asked : Request) (answer : ResponseValue) (new : Desk S g)
     : Type 0 where
   pub session : Session
   pub answers : AnswersRequest (HasCleanDisk (state g new) × HoldsOwnEvent g old) (desk_state old) (Ok asked) answer session
@@ -40,18 +40,18 @@ pub record AnswersAsked {S : Type 0} (g : Ghosts S) (old : Desk S g) (asked : Re
 -- ---- one request
 
 -- the desk was asked what the input asks for
-abbrev pub IsServed : Type 0 → Option (List ℕ) → DeskState → AnswerValue → Session → DeskState → Type 0
+abbrev pub IsServed : Type 0 → Option (List ℕ) → DeskState → ResponseValue → Session → DeskState → Type 0
 IsServed Represented input old answer session new =
     (asked : Result Request Fault) × IfSome input (λ xs. IsRequest xs asked) × AnswersRequest Represented old asked answer session new
 
 -- or memory ran out for a body, before the desk was asked, and it stays as it is
-abbrev pub IsUnserved : Option (List ℕ) → DeskState → AnswerValue → Session → DeskState → Type 0
+abbrev pub IsUnserved : Option (List ℕ) → DeskState → ResponseValue → Session → DeskState → Type 0
 IsUnserved input old answer session new =
-    (answer ≡ refusal_answer Memory) × IfSome input (λ xs. (round table n : ℕ) × IsWholeRequest xs (Body round table n))
+    (answer ≡ refusal_response Memory) × IfSome input (λ xs. (round table n : ℕ) × IsWholeRequest xs (Body round table n))
     × (session ≡ no_session) × (new ≡ old)
 
 -- what was written of an answer
-abbrev pub Writes : Option (List ℕ) → Option (List ℕ) → Served → AnswerValue → Type 0
+abbrev pub Writes : Option (List ℕ) → Option (List ℕ) → Served → ResponseValue → Type 0
 Writes before after (Answered status) answer = (status ≡ answer.status) × Appends before after answer.bytes
 Writes before after (WriteFault sent) answer = (sent ≤ length answer.bytes) × Appends before after (take sent answer.bytes)
 Writes before after ReadFault answer = ⊥
@@ -61,10 +61,10 @@ Writes before after ReadFault answer = ⊥
 abbrev pub EndsServing : Type 0 → Option (List ℕ) → DeskState → Session → DeskState → (before after : Option (List ℕ)) → Served → Type 0
 EndsServing Represented input old session new before after ReadFault = Keeps before after × (session ≡ no_session) × (new ≡ old)
 EndsServing Represented input old session new before after (Answered status) =
-    (answer : AnswerValue) × Writes before after (Answered status) answer
+    (answer : ResponseValue) × Writes before after (Answered status) answer
     × (IsServed Represented input old answer session new ⊎ IsUnserved input old answer session new)
 EndsServing Represented input old session new before after (WriteFault sent) =
-    (answer : AnswerValue) × Writes before after (WriteFault sent) answer
+    (answer : ResponseValue) × Writes before after (WriteFault sent) answer
     × (IsServed Represented input old answer session new ⊎ IsUnserved input old answer session new)
 
 -- What serving one request does: one score is the session, or nothing is.
@@ -80,10 +80,10 @@ pub record Serves {S : Type 0} (g : Ghosts S) (input : Option (List ℕ)) (old n
 abbrev pub IsWritten : DeskState → List ℕ → Option (List ℕ) → Option (List ℕ) → Served → Type 0
 IsWritten old input before after ReadFault = Keeps before after
 IsWritten old input before after (Answered status) =
-    (answer : AnswerValue) × Writes before after (Answered status) answer
+    (answer : ResponseValue) × Writes before after (Answered status) answer
     × IsAnswerUnless503 old.event old.serial input answer
 IsWritten old input before after (WriteFault sent) =
-    (answer : AnswerValue) × Writes before after (WriteFault sent) answer
+    (answer : ResponseValue) × Writes before after (WriteFault sent) answer
     × IsAnswerUnless503 old.event old.serial input answer
 
 -- Serving wrote just that if the desk ran and its tables represented its event.

@@ -16,7 +16,7 @@ use Rattle.er_slips.specs.declared.request.wanted.Request.TheVariants.{Standings
 use Rattle.er_slips.specs.declared.request.wanted.Fault.{Fault}
 use Rattle.er_slips.specs.declared.request.Next.{Next}
 use Rattle.er_slips.specs.Request.{IsRequest, IsWholeRequest}
-use Rattle.er_slips.specs.Answer.{AnswerValue, fault_answer, message_of, refusal_answer}
+use Rattle.er_slips.specs.Response.{ResponseValue, fault_response, response_to, refusal_response}
 
 -- what a request asks the desk; a score that is reported is a command
 abbrev pub question_of : Request → Question
@@ -27,10 +27,10 @@ question_of (Report round table score) = question.Submit (ReportResult round tab
 
 -- The answer to what is asked, if memory and the store serve. A score is never late: its reply is the same in tables of
 -- either version.
-abbrev pub IsAnswered : EventValue → ℕ → Result Request Fault → AnswerValue → Type 0
-IsAnswered event serial (Err fault) answer = answer ≡ fault_answer fault
+abbrev pub IsAnswered : EventValue → ℕ → Result Request Fault → ResponseValue → Type 0
+IsAnswered event serial (Err fault) answer = answer ≡ fault_response fault
 IsAnswered event serial (Ok request) answer =
-    (told : Told) × IsDueAt 2 (record { event = event; serial = serial }) (question_of request) told × (answer ≡ message_of told)
+    (told : Told) × IsDueAt 2 (record { event = event; serial = serial }) (question_of request) told × (answer ≡ response_to told)
 
 -- a command is submitted, and nothing else is
 abbrev pub command_of : Question → Option Command
@@ -42,7 +42,7 @@ submitted_command (Err fault) = None
 submitted_command (Ok request) = command_of (question_of request)
 
 -- the answer to a whole input, and the command that is submitted for it
-pub record IsAnswer (event : EventValue) (serial : ℕ) (input : List ℕ) (answer : AnswerValue) (submits : Option Command) : Type 0 where
+pub record IsAnswer (event : EventValue) (serial : ℕ) (input : List ℕ) (answer : ResponseValue) (submits : Option Command) : Type 0 where
   pub asked : Result Request Fault
   pub asks : IsRequest input asked
   pub answered : IsAnswered event serial asked answer
@@ -50,14 +50,14 @@ pub record IsAnswer (event : EventValue) (serial : ℕ) (input : List ℕ) (answ
 
 -- Of a sound event, a serial and an input there is one answer, and one command at most.
 abbrev pub OneAnswer : Type 0
-OneAnswer = (event : EventValue) (serial : ℕ) (input : List ℕ) (one other : AnswerValue) (submits also : Option Command)
+OneAnswer = (event : EventValue) (serial : ℕ) (input : List ℕ) (one other : ResponseValue) (submits also : Option Command)
     → IsSoundButForSeeds event → IsAnswer event serial input one submits → IsAnswer event serial input other also
     → (one ≡ other) × (submits ≡ also)
 
 -- The answer to the input on this event, and else a 503 that names why, to the byte: memory ran out, or the store has a fault. So is
 -- answered only a head that passes each check, with the whole of its body: a 400 for a head or a length, a 404, a 405 and a 413 are
 -- always answered.
-abbrev pub IsAnswerUnless503 : EventValue → ℕ → List ℕ → AnswerValue → Type 0
+abbrev pub IsAnswerUnless503 : EventValue → ℕ → List ℕ → ResponseValue → Type 0
 IsAnswerUnless503 event serial input answer =
     ((submits : Option Command) × IsAnswer event serial input answer submits)
-    ⊎ ((why : Refusal) × IsFault why × (answer ≡ refusal_answer why) × (next : Next) × IsWholeRequest input next)
+    ⊎ ((why : Refusal) × IsFault why × (answer ≡ refusal_response why) × (next : Next) × IsWholeRequest input next)

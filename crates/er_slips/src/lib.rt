@@ -1,9 +1,9 @@
 //! One request over HTTP, one answer: reading a request, asking the desk, and sending the whole answer.
 #![tactic(auto)]
 
-mod answer;
 pub mod laws;
 mod request;
+mod response;
 mod serve;
 
 pub use request::{MAX_BODY, MAX_FIELDS, MAX_HEAD, Routes};

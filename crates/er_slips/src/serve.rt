@@ -1,13 +1,13 @@
 ghost use Rattle.std.specs.Prelude.{◌≡◌, MatchResult};
-ghost use Rattle.er_slips.specs.Answer.{IsMessage, answer_value, refusal_answer};
+ghost use Rattle.er_slips.specs.Response.{IsResponse, response_value, refusal_response};
 ghost use Rattle.er_slips.specs.Serving.{AnswersAsked, Writes, Serves};
 
 mod sending;
 
-use crate::answer::{
-    Answer, fault_answer, receipt_answer, refusal_answer, slip_answer, text_answer,
-};
 use crate::request::{NoRequest, Request, Routes, read_request};
+use crate::response::{
+    Response, fault_response, receipt_response, refusal_response, slip_response, text_response,
+};
 use crate::serve::sending::{Sent, send};
 use er_answers::{Question, Told, ask};
 use er_desk::Desk;
@@ -27,41 +27,41 @@ pub enum Served {
 }
 
 /// The answer, or that memory ran out for it.
-fn answer_or_memory(answer: Result<Answer, AllocError>) -> Answer
-    ensures { MatchResult answer (λ made. answer_value result
-        ≡ answer_value made) (λ _. answer_value result ≡ refusal_answer Refusal.Memory) }
+fn response_or_memory(answer: Result<Response, AllocError>) -> Response
+    ensures { MatchResult answer (λ made. response_value result
+        ≡ response_value made) (λ _. response_value result ≡ refusal_response Refusal.Memory) }
 {
     match answer {
         Ok(answer) => answer,
-        Err(_error) => refusal_answer(&Refusal::Memory),
+        Err(_error) => refusal_response(&Refusal::Memory),
     }
 }
 
-/// Returns the message that tells what the desk has answered.
-fn message(alloc: Global, told: &Told) -> Answer
-    ensures { IsMessage told.now (answer_value result) }
+/// Returns the response that tells what the desk has answered.
+fn response(alloc: Global, told: &Told) -> Response
+    ensures { IsResponse told.now (response_value result) }
 {
     match told {
-        Told::Accepted(receipt) => receipt_answer(*receipt),
-        Told::Text(text) => answer_or_memory(text_answer(alloc, text.as_slice())),
-        Told::Slip(slip) => answer_or_memory(slip_answer(alloc, slip.as_slice())),
-        Told::Refused(why) => refusal_answer(why),
+        Told::Accepted(receipt) => receipt_response(*receipt),
+        Told::Text(text) => response_or_memory(text_response(alloc, text.as_slice())),
+        Told::Slip(slip) => response_or_memory(slip_response(alloc, slip.as_slice())),
+        Told::Refused(why) => refusal_response(why),
     }
 }
 
 /// Asks the desk once, and returns the answer.
-fn answer<S: Alter>(alloc: Global, desk: &mut Desk<S>, asked: Request) -> Answer
-    ensures { AnswersAsked S.Store desk.old asked (answer_value result) desk.new }
+fn answer<S: Alter>(alloc: Global, desk: &mut Desk<S>, asked: Request) -> Response
+    ensures { AnswersAsked S.Store desk.old asked (response_value result) desk.new }
 {
     let question = Question::from(asked);
     let told = ask(alloc, desk, question);
-    message(alloc, &told)
+    response(alloc, &told)
 }
 
 /// Sends a whole answer.
-fn deliver<W: Write>(writer: &mut W, answer: &Answer) -> Served
+fn deliver<W: Write>(writer: &mut W, answer: &Response) -> Served
     ensures { Writes (W.contents writer.old) (W.contents writer.new) result
-        (answer_value answer.now) }
+        (response_value answer.now) }
 {
     match send(writer, answer.as_slice()) {
         Sent::All => Served::Answered {
@@ -87,8 +87,8 @@ pub fn serve_one<S: Alter, R: Read, W: Write>(
     desk.asks_nothing();
     match read_request(alloc, routes, reader) {
         Ok(asked) => deliver(writer, &answer(alloc, desk, asked)),
-        Err(NoRequest::Refused(fault)) => deliver(writer, &fault_answer(fault)),
-        Err(NoRequest::Memory) => deliver(writer, &refusal_answer(&Refusal::Memory)),
+        Err(NoRequest::Refused(fault)) => deliver(writer, &fault_response(fault)),
+        Err(NoRequest::Memory) => deliver(writer, &refusal_response(&Refusal::Memory)),
         Err(NoRequest::Unread) => Served::ReadFault,
     }
 }

@@ -7,7 +7,7 @@ returns g c =
     let told = c.ask-told.result in
     record {
       session = _;
-      answers = (told, rw c.from-question.ensures at c.ask-told.ensures.answers, c.message.ensures, refl);
+      answers = (told, rw c.from-question.ensures at c.ask-told.ensures.answers, c.response.ensures, refl);
       asks = asks_session g.S.Store c.args.desk.now c.args.asked told c.ask-told.new.desk
           (rw c.from-question.ensures at c.ask-told.ensures.asked);
     }

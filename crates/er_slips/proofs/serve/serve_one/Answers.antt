@@ -1,5 +1,5 @@
 use Rattle.std.proofs.Common.{refl, ap, ◌∙◌}
-use Rattle.er_slips.specs.Answer.{fault_answer}
+use Rattle.er_slips.specs.Response.{fault_response}
 use Rattle.er_slips.proofs.Answering.{ends-asked, ends-refused, ends-unserved, keeps}
 use Rattle.er_slips.proofs.serve.serve_one.Goals as goal
 
@@ -19,7 +19,7 @@ returns-in-Err-Refused g c = record {
   serves = record {
     session = _;
     ends = ends-refused _ _ _ _ _ _ _ _ _ _ _ c.in-Err-Refused.field-0-is c.in-Err-Refused.ensures
-        (c.fault_answer.ensures ∙ ap fault_answer c.in-Err-Refused.fault-is) refl refl c.deliver-in-Err-Refused.ensures;
+        (c.fault_response.ensures ∙ ap fault_response c.in-Err-Refused.fault-is) refl refl c.deliver-in-Err-Refused.ensures;
     asks = c.asks_nothing.ensures;
   };
 }
@@ -28,7 +28,7 @@ pub returns-in-Err-Memory : goal.returns-in-Err-Memory
 returns-in-Err-Memory g c = record {
   serves = record {
     session = _;
-    ends = ends-unserved _ _ _ _ _ _ _ _ c.in-Err-Memory.field-0-is c.in-Err-Memory.ensures c.refusal_answer.ensures
+    ends = ends-unserved _ _ _ _ _ _ _ _ c.in-Err-Memory.field-0-is c.in-Err-Memory.ensures c.refusal_response.ensures
         c.deliver-in-Err-Memory.ensures;
     asks = c.asks_nothing.ensures;
   };

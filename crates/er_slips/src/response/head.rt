@@ -1,5 +1,5 @@
 ghost use Rattle.std.specs.Prelude.{◌≡◌, ◌≤◌, length};
-ghost use Rattle.er_slips.specs.Answer.{status_line, allow_line, type_line, head_of};
+ghost use Rattle.er_slips.specs.Response.{status_line, allow_line, type_line, head_of};
 
 use crate::request::Methods;
 use er_paper::ShortText;

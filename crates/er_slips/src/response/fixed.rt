@@ -1,38 +1,38 @@
 ghost use Rattle.std.specs.Prelude.{◌≡◌, ◌≤◌, ◌+◌, ◌++◌, None, false, length};
 ghost use Rattle.er_event.specs.Refusal.{entry_of};
-ghost use Rattle.er_slips.specs.Answer.{answer_value, answer_of, fault_answer, status_of, games_object, detail, refusal_body};
-ghost use Rattle.er_slips.specs.Answer.{refusal_answer};
-ghost use Rattle.er_slips.specs.Answer.{receipt_body, receipt_answer};
+ghost use Rattle.er_slips.specs.Response.{response_value, response_of, fault_response, status_of, games_object, detail, refusal_body};
+ghost use Rattle.er_slips.specs.Response.{refusal_response};
+ghost use Rattle.er_slips.specs.Response.{receipt_body, receipt_response};
 
-use crate::answer::Answer;
-use crate::answer::head::head_of;
 use crate::request::{Fault, Methods};
+use crate::response::Response;
+use crate::response::head::head_of;
 use er_event::{Receipt, Refusal, Score};
 use er_paper::ShortText;
 
 /// The answer with this JSON.
-fn answer_of(status: u16, allow: Option<Methods>, body: &[u8]) -> Answer
+fn response_of(status: u16, allow: Option<Methods>, body: &[u8]) -> Response
     requires { length body.now ≤ 168 }
-    ensures { answer_value result ≡ answer_of status allow false body.now }
+    ensures { response_value result ≡ response_of status allow false body.now }
 {
     let mut text = head_of(status, allow, false, body.len());
     text.push(body);
-    Answer::Short { status, text }
+    Response::Short { status, text }
 }
 
 /// The answer to a request that the desk is not asked about. It takes no memory.
-pub fn fault_answer(fault: Fault) -> Answer
-    ensures { answer_value result ≡ fault_answer fault }
+pub fn fault_response(fault: Fault) -> Response
+    ensures { response_value result ≡ fault_response fault }
 {
     match fault {
-        Fault::BadRequest => answer_of(400, None, b"{\"error\":\"bad request\"}"),
-        Fault::NotFound => answer_of(404, None, b"{\"error\":\"not found\"}"),
-        Fault::NotAllowed { allowed } => answer_of(
+        Fault::BadRequest => response_of(400, None, b"{\"error\":\"bad request\"}"),
+        Fault::NotFound => response_of(404, None, b"{\"error\":\"not found\"}"),
+        Fault::NotAllowed { allowed } => response_of(
             405,
             Some(allowed),
             b"{\"error\":\"method not allowed\"}",
         ),
-        Fault::TooLarge => answer_of(413, None, b"{\"error\":\"body too large\"}"),
+        Fault::TooLarge => response_of(413, None, b"{\"error\":\"body too large\"}"),
     }
 }
 
@@ -94,11 +94,11 @@ fn refusal_body(refusal: &Refusal) -> ShortText
 }
 
 /// The answer if the desk refused. It takes no memory.
-pub fn refusal_answer(refusal: &Refusal) -> Answer
-    ensures { answer_value result ≡ refusal_answer refusal.now }
+pub fn refusal_response(refusal: &Refusal) -> Response
+    ensures { response_value result ≡ refusal_response refusal.now }
 {
     let body = refusal_body(refusal);
-    answer_of(status_of(refusal), None, body.as_slice())
+    response_of(status_of(refusal), None, body.as_slice())
 }
 
 fn receipt_body(receipt: Receipt) -> ShortText
@@ -113,9 +113,9 @@ fn receipt_body(receipt: Receipt) -> ShortText
 }
 
 /// The answer if a command was accepted. It takes no memory.
-pub fn receipt_answer(receipt: Receipt) -> Answer
-    ensures { answer_value result ≡ receipt_answer receipt.serial }
+pub fn receipt_response(receipt: Receipt) -> Response
+    ensures { response_value result ≡ receipt_response receipt.serial }
 {
     let body = receipt_body(receipt);
-    answer_of(200, None, body.as_slice())
+    response_of(200, None, body.as_slice())
 }

@@ -1,7 +1,7 @@
 use Rattle.std.proofs.Common.{◌≡◌, ℕ, List, [], ◌∷◌, ◌++◌, ap, ap₂, ◌∙◌, append_assoc, codes}
 use Rattle.std.specs.Fmt.{decimal}
-use Rattle.er_slips.specs.Answer.{detail}
-use Rattle.er_slips.proofs.answer.fixed.refusal_body.Goals as goal
+use Rattle.er_slips.specs.Response.{detail}
+use Rattle.er_slips.proofs.response.fixed.refusal_body.Goals as goal
 
 regroup : (head name key number more last : List ℕ)
     → (((((([] ++ head) ++ name) ++ key) ++ number) ++ more) ++ last) ≡ head ++ (name ++ (key ++ (number ++ (more ++ last))))

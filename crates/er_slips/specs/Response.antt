@@ -7,21 +7,21 @@ use Rattle.er_event.specs.declared.scores.Games.{Games}
 use Rattle.er_event.specs.Refusal.{entry_of}
 use Rattle.er_answers.specs.declared.question.Told.{Told}
 use Rattle.er_answers.specs.declared.question.Told.TheVariants.{Accepted, Text, Slip, Refused}
-use Rattle.er_slips.specs.declared.answer.Answer.{Answer}
-use Rattle.er_slips.specs.declared.answer.Answer.TheVariants.{Short, Long}
+use Rattle.er_slips.specs.declared.response.Response.{Response}
+use Rattle.er_slips.specs.declared.response.Response.TheVariants.{Short, Long}
 use Rattle.er_slips.specs.declared.request.wanted.Methods.{Methods}
 use Rattle.er_slips.specs.declared.request.wanted.Methods.TheVariants.{Get, GetAndPost}
 use Rattle.er_slips.specs.declared.request.wanted.Fault.{Fault}
 use Rattle.er_slips.specs.declared.request.wanted.Fault.TheVariants.{BadRequest, NotFound, NotAllowed, TooLarge}
 
 -- a status, and the bytes that begin with it
-pub record AnswerValue : Type 0 where
+pub record ResponseValue : Type 0 where
   pub status : ℕ
   pub bytes : List ℕ
 
-abbrev pub answer_value : Answer → AnswerValue
-answer_value (Short status text) = record { status = status; bytes = text }
-answer_value (Long text) = record { status = 200; bytes = text.items }
+abbrev pub response_value : Response → ResponseValue
+response_value (Short status text) = record { status = status; bytes = text }
+response_value (Long text) = record { status = 200; bytes = text.items }
 
 -- ---- the head of an answer
 
@@ -54,19 +54,19 @@ head_of status allow is_text size =
     ++ (allow_line allow
     ++ (type_line is_text ++ (codes "Content-Length: " ++ (decimal size ++ codes "\r\nConnection: close\r\n\r\n"))))
 
-abbrev pub answer_of : ℕ → Option Methods → Bool → List ℕ → AnswerValue
-answer_of status allow is_text body = record { status = status; bytes = head_of status allow is_text (length body) ++ body }
+abbrev pub response_of : ℕ → Option Methods → Bool → List ℕ → ResponseValue
+response_of status allow is_text body = record { status = status; bytes = head_of status allow is_text (length body) ++ body }
 
-abbrev pub json_answer : ℕ → List ℕ → AnswerValue
-json_answer status body = answer_of status None false body
+abbrev pub json_response : ℕ → List ℕ → ResponseValue
+json_response status body = response_of status None false body
 
 -- ---- before the desk is asked
 
-abbrev pub fault_answer : Fault → AnswerValue
-fault_answer BadRequest = json_answer 400 (codes "{\"error\":\"bad request\"}")
-fault_answer NotFound = json_answer 404 (codes "{\"error\":\"not found\"}")
-fault_answer (NotAllowed allowed) = answer_of 405 (Some allowed) false (codes "{\"error\":\"method not allowed\"}")
-fault_answer TooLarge = json_answer 413 (codes "{\"error\":\"body too large\"}")
+abbrev pub fault_response : Fault → ResponseValue
+fault_response BadRequest = json_response 400 (codes "{\"error\":\"bad request\"}")
+fault_response NotFound = json_response 404 (codes "{\"error\":\"not found\"}")
+fault_response (NotAllowed allowed) = response_of 405 (Some allowed) false (codes "{\"error\":\"method not allowed\"}")
+fault_response TooLarge = json_response 413 (codes "{\"error\":\"body too large\"}")
 
 -- ---- after it
 
@@ -91,30 +91,30 @@ refusal_body why =
     codes "{\"name\":\""
     ++ ((entry_of why).1 ++ (codes "\",\"refused\":" ++ (decimal (entry_of why).0 ++ (detail why ++ codes "}"))))
 
-abbrev pub refusal_answer : Refusal → AnswerValue
-refusal_answer why = json_answer (status_of why) (refusal_body why)
+abbrev pub refusal_response : Refusal → ResponseValue
+refusal_response why = json_response (status_of why) (refusal_body why)
 
 abbrev pub receipt_body : ℕ → List ℕ
 receipt_body serial = codes "{\"serial\":" ++ (decimal serial ++ codes "}")
 
-abbrev pub receipt_answer : ℕ → AnswerValue
-receipt_answer serial = json_answer 200 (receipt_body serial)
+abbrev pub receipt_response : ℕ → ResponseValue
+receipt_response serial = json_response 200 (receipt_body serial)
 
-abbrev pub text_answer : List ℕ → AnswerValue
-text_answer text = answer_of 200 None true text
+abbrev pub text_response : List ℕ → ResponseValue
+text_response text = response_of 200 None true text
 
-abbrev pub slip_answer : List ℕ → AnswerValue
-slip_answer slip = json_answer 200 slip
+abbrev pub slip_response : List ℕ → ResponseValue
+slip_response slip = json_response 200 slip
 
--- what the desk has answered, as a message
-abbrev pub message_of : Told → AnswerValue
-message_of (Accepted receipt) = receipt_answer receipt.serial
-message_of (Text text) = text_answer text
-message_of (Slip slip) = slip_answer slip
-message_of (Refused why) = refusal_answer why
+-- what the desk has answered, as a response
+abbrev pub response_to : Told → ResponseValue
+response_to (Accepted receipt) = receipt_response receipt.serial
+response_to (Text text) = text_response text
+response_to (Slip slip) = slip_response slip
+response_to (Refused why) = refusal_response why
 
--- this message, or that there is no memory for one of any length
-abbrev pub IsMessage : Told → AnswerValue → Type 0
-IsMessage (Text text) answer = (answer ≡ text_answer text) ⊎ (answer ≡ refusal_answer Memory)
-IsMessage (Slip slip) answer = (answer ≡ slip_answer slip) ⊎ (answer ≡ refusal_answer Memory)
-IsMessage told answer = answer ≡ message_of told
+-- this response, or that there is no memory for one of any length
+abbrev pub IsResponse : Told → ResponseValue → Type 0
+IsResponse (Text text) answer = (answer ≡ text_response text) ⊎ (answer ≡ refusal_response Memory)
+IsResponse (Slip slip) answer = (answer ≡ slip_response slip) ⊎ (answer ≡ refusal_response Memory)
+IsResponse told answer = answer ≡ response_to told
