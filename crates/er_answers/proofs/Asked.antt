@@ -9,9 +9,9 @@ use Rattle.er_rank.specs.declared.rows.Row.{Row}
 use Rattle.er_store.specs.{Calls.OrFails, Slip.FindsSlipOrFails}
 use Rattle.er_desk.specs.{Desk.{DeskState, Outcome, ReadsRows, ShowsEvent, point_of}, Headline.AreTheStandings, Migrating.Migrates}
 use Rattle.er_desk.specs.Reply.{Reply, IsLawfulReply, receipt}
-use Rattle.er_answers.specs.declared.question.{View.View, Told.Told}
+use Rattle.er_answers.specs.declared.question.{View.View, Answer.Answer}
 use Rattle.er_answers.specs.declared.question.Question.TheVariants.{Submit, Standings, Show, Slip as SlipOf, Migrate}
-use Rattle.er_answers.specs.declared.question.Told.TheVariants.{Accepted, Text, Refused}
+use Rattle.er_answers.specs.declared.question.Answer.TheVariants.{Accepted, Text, Refused}
 use Rattle.er_answers.specs.Question.{IsRowsTold, IsSlipTold, ShowsView, moved_told, reply_told, slip_told}
 use Rattle.er_answers.specs.{Due.{IsDueAt, OrFault}, Answers.{AnswersDesk, DoesAsked, replies_of}}
 
@@ -34,20 +34,20 @@ submitted Represented old new command reply turn = record {
 
 -- ---- a text of the event
 
-shown_at : (desk : DeskState) (view : View) (told : Told) → IsFalse desk.needs_reopen → ShowsEvent Refused desk (ShowsView view) told
+shown_at : (desk : DeskState) (view : View) (told : Answer) → IsFalse desk.needs_reopen → ShowsEvent Refused desk (ShowsView view) told
     → OrFault (ShowsView view desk.event told) told
 shown_at desk view told runs (inl (going, inl shows)) = inl shows
 shown_at desk view told runs (inl (going, inr full)) = inr (Memory, inl refl, full)
 shown_at desk view told runs (inr (stopped, asks)) = absurd (true≢false (sym stopped ∙ runs))
 
-pub shown : (Represented : Type 0) (desk : DeskState) (view : View) (told : Told) → ShowsEvent Refused desk (ShowsView view) told
+pub shown : (Represented : Type 0) (desk : DeskState) (view : View) (told : Answer) → ShowsEvent Refused desk (ShowsView view) told
     → AnswersDesk Represented desk (Show view) told desk
 shown Represented desk view told shows = record { does = (shows, refl); due = λ represented runs. shown_at desk view told runs shows }
 
 -- ---- the standings
 
 -- rows that were read were read by a desk that runs, and leave it at its event
-rows_read : (old new : DeskState) (rows : Vec Row Global) (shown : List Row) (told : Told) → ReadsRows old (Ok rows) new
+rows_read : (old new : DeskState) (rows : Vec Row Global) (shown : List Row) (told : Answer) → ReadsRows old (Ok rows) new
     → shown ≡ rows.items
     → (IsFalse new.needs_reopen → (told ≡ Text (rows_text new.event shown)) ⊎ (told ≡ Refused Memory))
     → IsRowsTold old.event (Ok rows) told
@@ -58,7 +58,7 @@ rows_read old new rows shown told (inl (runs, same, ok)) is tells =
 rows_read old new rows shown told (inr (inl (runs, same, why, fault, e))) is tells = absurd (true≢false (ap is_ok e))
 rows_read old new rows shown told (inr (inr (stopped, same, e))) is tells = absurd (true≢false (ap is_ok e))
 
-rows_due : (old : DeskState) (read : Result (Vec Row Global) Refusal) (told : Told)
+rows_due : (old : DeskState) (read : Result (Vec Row Global) Refusal) (told : Answer)
     → OrFails (λ (rows : Vec Row Global). AreTheStandings old.event rows.items) read → IsRowsTold old.event read told
     → OrFault (IsDueAt old.version (point_of old) Standings told) told
 rows_due old (Ok rows) told are (inl is) = inl (rows.items, are, is)
@@ -66,7 +66,7 @@ rows_due old (Ok rows) told are (inr full) = inr (Memory, inl refl, full)
 rows_due old (Err why) told fault is = inr (why, fault, is)
 
 -- of standings that were read, or why not
-pub ranked : (Represented : Type 0) (old new : DeskState) (read : Result (Vec Row Global) Refusal) (told : Told) → ReadsRows old read new
+pub ranked : (Represented : Type 0) (old new : DeskState) (read : Result (Vec Row Global) Refusal) (told : Answer) → ReadsRows old read new
     → (Represented → IsFalse old.needs_reopen → OrFails (λ (rows : Vec Row Global). AreTheStandings old.event rows.items) read)
     → IsRowsTold old.event read told → AnswersDesk Represented old Standings told new
 ranked Represented old new read told reads found is = record {
@@ -74,7 +74,7 @@ ranked Represented old new read told reads found is = record {
   due = λ represented runs. rows_due old read told (found represented runs) is;
 }
 
-pub ranked_rows : (Represented : Type 0) (old new : DeskState) (rows : Vec Row Global) (shown : List Row) (told : Told)
+pub ranked_rows : (Represented : Type 0) (old new : DeskState) (rows : Vec Row Global) (shown : List Row) (told : Answer)
     → ReadsRows old (Ok rows) new
     → (Represented → IsFalse old.needs_reopen → OrFails (λ (rows : Vec Row Global). AreTheStandings old.event rows.items) (Ok rows))
     → shown ≡ rows.items
@@ -85,7 +85,7 @@ ranked_rows Represented old new rows shown told reads found is tells =
 
 -- ---- a slip
 
-slip_due : (old : DeskState) (round table : ℕ) (read : Result SlipRow Refusal) (told : Told)
+slip_due : (old : DeskState) (round table : ℕ) (read : Result SlipRow Refusal) (told : Answer)
     → FindsSlipOrFails old.event round table read → IsSlipTold read told
     → OrFault (IsDueAt old.version (point_of old) (SlipOf round table) told) told
 slip_due old round table (Ok row) told found (inl is) = inl (is ∙ ap slip_told (sym found))
@@ -93,7 +93,7 @@ slip_due old round table (Ok row) told found (inr full) = inr (Memory, inl refl,
 slip_due old round table (Err why) told (inl fault) is = inr (why, fault, is)
 slip_due old round table (Err why) told (inr none) is = inl (is ∙ ap (λ (w : Refusal). Refused w) none.0 ∙ ap slip_told (sym none.1))
 
-pub found_slip : (Represented : Type 0) (old new : DeskState) (round table : ℕ) (told : Told)
+pub found_slip : (Represented : Type 0) (old new : DeskState) (round table : ℕ) (told : Answer)
     (reads : DoesAsked old (SlipOf round table) told new)
     → (Represented → IsFalse old.needs_reopen → FindsSlipOrFails old.event round table reads.0)
     → AnswersDesk Represented old (SlipOf round table) told new

@@ -15,11 +15,11 @@ use Rattle.er_answers.specs.Question.{IsRowsTold, IsSlipTold, ShowsView, moved_t
 use Rattle.er_answers.specs.Due.{IsAnswerAt}
 use Rattle.er_answers.specs.declared.question.Question.{Question}
 use Rattle.er_answers.specs.declared.question.Question.TheVariants.{Submit, Standings, Show, Slip, Migrate}
-use Rattle.er_answers.specs.declared.question.Told.{Told}
-use Rattle.er_answers.specs.declared.question.Told.TheVariants.{Accepted, Text, Refused}
+use Rattle.er_answers.specs.declared.question.Answer.{Answer}
+use Rattle.er_answers.specs.declared.question.Answer.TheVariants.{Accepted, Text, Refused}
 
 -- What the desk does, whatever its tables hold. What shows its event leaves it as it is.
-abbrev pub DoesAsked : DeskState → Question → Told → DeskState → Type 0
+abbrev pub DoesAsked : DeskState → Question → Answer → DeskState → Type 0
 DoesAsked old (Submit command) told new = (reply : Reply) × Outcome old command reply new × (told ≡ reply_told reply)
 DoesAsked old Standings told new =
     (read : Result (Vec Row Global) Refusal) × ReadsRows old read new × IsRowsTold old.event read told
@@ -29,29 +29,29 @@ DoesAsked old Migrate told new = (moved : Result ℕ Refusal) × Migrates old mo
 
 -- What a desk answers. `Represented` is that its tables represented its event, on a clean disk: on this rests that the answer is the one of
 -- its event.
-pub record AnswersDesk (Represented : Type 0) (old : DeskState) (question : Question) (told : Told) (new : DeskState) : Type 0 where
+pub record AnswersDesk (Represented : Type 0) (old : DeskState) (question : Question) (told : Answer) (new : DeskState) : Type 0 where
   pub does : DoesAsked old question told new
   pub due : Represented → IsFalse old.needs_reopen → IsAnswerAt old.version (point_of old) question told
 
 -- the reply that is told, if one is
-abbrev pub replies_of : Told → List Reply
+abbrev pub replies_of : Answer → List Reply
 replies_of (Accepted receipt) = Ok receipt ∷ []
 replies_of (Refused why) = Err why ∷ []
 replies_of (Text text) = []
 replies_of told = []
 
 -- what was asked of the file: one command with its reply, or nothing
-abbrev pub session_at : Question → Told → Bool → Session
+abbrev pub session_at : Question → Answer → Bool → Session
 session_at (Submit command) told needs_reopen = session_of (command ∷ []) (replies_of told) needs_reopen
 session_at question told needs_reopen = no_session
 
 -- What a migration does to the file, and answers. It asks no command.
-pub record MovesFile {S : Type 0} (g : Ghosts S) (old : Desk S g) (told : Told) (new : Desk S g) : Type 0 where
+pub record MovesFile {S : Type 0} (g : Ghosts S) (old : Desk S g) (told : Answer) (new : Desk S g) : Type 0 where
   pub moved : Result ℕ Refusal
   pub does : MovesDesk g old moved new
   pub tells : told ≡ moved_told moved
 
 -- what a question does to the file: a session of its desk is asked, or its tables are moved
-abbrev pub AsksFor : {S : Type 0} (g : Ghosts S) → Desk S g → Question → Told → Desk S g → Type 0
+abbrev pub AsksFor : {S : Type 0} (g : Ghosts S) → Desk S g → Question → Answer → Desk S g → Type 0
 AsksFor g old Migrate told new = MovesFile g old told new
 AsksFor g old question told new = Asks g old (session_at question told (desk_state new).needs_reopen) new

@@ -11,12 +11,12 @@ use Rattle.er_desk.specs.Reply.{Reply, IsDue, IsLawfulReply, receipt}
 use Rattle.er_answers.specs.Question.{reply_told, slip_told, text_told, view_text}
 use Rattle.er_answers.specs.declared.question.Question.{Question}
 use Rattle.er_answers.specs.declared.question.Question.TheVariants.{Submit, Standings, Show, Slip, Migrate}
-use Rattle.er_answers.specs.declared.question.Told.{Told}
-use Rattle.er_answers.specs.declared.question.Told.TheVariants.{Accepted, Text, Refused}
+use Rattle.er_answers.specs.declared.question.Answer.{Answer}
+use Rattle.er_answers.specs.declared.question.Answer.TheVariants.{Accepted, Text, Refused}
 
 -- What is due if memory and the device serve, over tables of this version: to a command its reply, to a migration the serial, and
 -- else a text of the event.
-abbrev pub IsDueAt : ℕ → Point → Question → Told → Type 0
+abbrev pub IsDueAt : ℕ → Point → Question → Answer → Type 0
 IsDueAt version point (Submit command) told =
     (reply : Reply) × IsDue version point.event point.serial command reply × (told ≡ reply_told reply)
 IsDueAt version point Standings told =
@@ -26,11 +26,11 @@ IsDueAt version point (Slip round table) told = told ≡ slip_told (slip_of poin
 IsDueAt version point Migrate told = told ≡ Accepted (receipt point.serial)
 
 -- this, or a refusal for memory or by the device
-abbrev pub OrFault : Type 0 → Told → Type 0
+abbrev pub OrFault : Type 0 → Answer → Type 0
 OrFault Is told = Is ⊎ ((why : Refusal) × IsFault why × (told ≡ Refused why))
 
 -- The answer: what is due, or a fault of memory or of the device. A command gets a fault of the device only in place of a receipt.
-abbrev pub IsAnswerAt : ℕ → Point → Question → Told → Type 0
+abbrev pub IsAnswerAt : ℕ → Point → Question → Answer → Type 0
 IsAnswerAt version point (Submit command) told =
     (reply : Reply) × IsLawfulReply version point.event point.serial command reply × (told ≡ reply_told reply)
 IsAnswerAt version point question told = OrFault (IsDueAt version point question told) told

@@ -6,7 +6,7 @@ ghost use Rattle.er_answers.specs.Question.{IsRowsTold, IsSlipTold, ShowsView, r
 ghost use Rattle.er_answers.specs.Answers.{AsksFor, AnswersDesk};
 ghost use Rattle.er_answers.specs.declared.question.Question.TheVariants as question;
 
-use crate::question::{Question, Told, View};
+use crate::question::{Answer, Question, View};
 use er_desk::{Desk, Reply};
 use er_event::{Event, Items, Receipt, Refusal, SlipRow};
 use er_paper::{
@@ -17,12 +17,12 @@ use sqlite::Alter;
 use std::alloc::{AllocError, Global};
 
 /// A receipt, or why there is none.
-pub fn reply_told(reply: Reply) -> Told
+pub fn reply_told(reply: Reply) -> Answer
     ensures { result ≡ reply_told reply }
 {
     match reply {
-        Ok(receipt) => Told::Accepted(receipt),
-        Err(why) => Told::Refused(why),
+        Ok(receipt) => Answer::Accepted(receipt),
+        Err(why) => Answer::Refused(why),
     }
 }
 
@@ -40,44 +40,44 @@ fn view_text(alloc: Global, event: &Event, view: View) -> Result<Option<Vec<u8>>
 }
 
 /// What is told of a text that was made. A round that isn't stored has no pairings.
-fn text_told(made: Result<Option<Vec<u8>>, AllocError>) -> Told
+fn text_told(made: Result<Option<Vec<u8>>, AllocError>) -> Answer
     ensures { MatchResult made (λ text. result ≡ text_told (option_map (λ t. t.items) text))
-        (λ _. result ≡ Told.Refused Refusal.Memory) }
+        (λ _. result ≡ Answer.Refused Refusal.Memory) }
 {
     match made {
-        Ok(Some(text)) => Told::Text(Items::from(text)),
-        Ok(None) => Told::Refused(Refusal::NoSuchMatch),
-        Err(_error) => Told::Refused(Refusal::Memory),
+        Ok(Some(text)) => Answer::Text(Items::from(text)),
+        Ok(None) => Answer::Refused(Refusal::NoSuchMatch),
+        Err(_error) => Answer::Refused(Refusal::Memory),
     }
 }
 
-fn show<S: Alter>(alloc: Global, desk: &Desk<S>, view: View) -> Told
-    ensures { ShowsEvent Told.Refused (desk_state desk.now) (ShowsView view) result }
+fn show<S: Alter>(alloc: Global, desk: &Desk<S>, view: View) -> Answer
+    ensures { ShowsEvent Answer.Refused (desk_state desk.now) (ShowsView view) result }
 {
     match desk.event() {
         Ok(event) => text_told(view_text(alloc, event, view)),
-        Err(why) => Told::Refused(why),
+        Err(why) => Answer::Refused(why),
     }
 }
 
 /// The text of these rows of standings.
-fn rows_told<S: Alter>(alloc: Global, desk: &Desk<S>, rows: &[Row]) -> Told
+fn rows_told<S: Alter>(alloc: Global, desk: &Desk<S>, rows: &[Row]) -> Answer
     ensures { IsFalse (desk_state desk.now).needs_reopen
-        → (result ≡ Told.Text (rows_text desk.now.event rows.now))
-        ⊎ (result ≡ Told.Refused Refusal.Memory) }
+        → (result ≡ Answer.Text (rows_text desk.now.event rows.now))
+        ⊎ (result ≡ Answer.Refused Refusal.Memory) }
 {
     let event = match desk.event() {
         Ok(event) => event,
-        Err(why) => return Told::Refused(why),
+        Err(why) => return Answer::Refused(why),
     };
     match rows_text(alloc, rows, event) {
-        Ok(text) => Told::Text(Items::from(text)),
-        Err(_error) => Told::Refused(Refusal::Memory),
+        Ok(text) => Answer::Text(Items::from(text)),
+        Err(_error) => Answer::Refused(Refusal::Memory),
     }
 }
 
 /// The standings, by the totals in the tables.
-fn standings<S: Alter>(alloc: Global, desk: &mut Desk<S>) -> Told
+fn standings<S: Alter>(alloc: Global, desk: &mut Desk<S>) -> Answer
     ensures answers { AnswersDesk
         (HasCleanDisk (state S.Store desk.new) × HoldsOwnEvent S.Store desk.old)
         (desk_state desk.old) question.Standings result (desk_state desk.new) }
@@ -85,25 +85,25 @@ fn standings<S: Alter>(alloc: Global, desk: &mut Desk<S>) -> Told
 {
     match desk.stored_standings(alloc) {
         Ok(rows) => rows_told(alloc, desk, rows.as_slice()),
-        Err(why) => Told::Refused(why),
+        Err(why) => Answer::Refused(why),
     }
 }
 
 /// What is told of a slip that was read.
-fn slip_told(alloc: Global, read: Result<SlipRow, Refusal>) -> Told
+fn slip_told(alloc: Global, read: Result<SlipRow, Refusal>) -> Answer
     ensures { IsSlipTold read result }
 {
     let row = match read {
         Ok(row) => row,
-        Err(why) => return Told::Refused(why),
+        Err(why) => return Answer::Refused(why),
     };
     match slip_json(alloc, &row) {
-        Ok(text) => Told::Slip(Items::from(text)),
-        Err(_error) => Told::Refused(Refusal::Memory),
+        Ok(text) => Answer::Slip(Items::from(text)),
+        Err(_error) => Answer::Refused(Refusal::Memory),
     }
 }
 
-fn slip<S: Alter>(alloc: Global, desk: &mut Desk<S>, round: u8, table: u16) -> Told
+fn slip<S: Alter>(alloc: Global, desk: &mut Desk<S>, round: u8, table: u16) -> Answer
     ensures answers { AnswersDesk
         (HasCleanDisk (state S.Store desk.new) × HoldsOwnEvent S.Store desk.old)
         (desk_state desk.old) (question.Slip round table) result (desk_state desk.new) }
@@ -114,20 +114,20 @@ fn slip<S: Alter>(alloc: Global, desk: &mut Desk<S>, round: u8, table: u16) -> T
 }
 
 /// Moves the tables to version 2, and answers with the serial, which stays.
-fn migrate<S: Alter>(desk: &mut Desk<S>) -> Told
+fn migrate<S: Alter>(desk: &mut Desk<S>) -> Answer
     ensures answers { AnswersDesk
         (HasCleanDisk (state S.Store desk.new) × HoldsOwnEvent S.Store desk.old)
         (desk_state desk.old) question.Migrate result (desk_state desk.new) }
     ensures asked { AsksFor S.Store desk.old question.Migrate result desk.new }
 {
     match desk.migrate() {
-        Ok(serial) => Told::Accepted(Receipt { serial }),
-        Err(why) => Told::Refused(why),
+        Ok(serial) => Answer::Accepted(Receipt { serial }),
+        Err(why) => Answer::Refused(why),
     }
 }
 
 /// Asks a desk, and returns its answer. Only a command and a migration change its event or its tables; a fault of its store stops it.
-pub fn ask<S: Alter>(alloc: Global, desk: &mut Desk<S>, question: Question) -> Told
+pub fn ask<S: Alter>(alloc: Global, desk: &mut Desk<S>, question: Question) -> Answer
     ensures answers { AnswersDesk
         (HasCleanDisk (state S.Store desk.new) × HoldsOwnEvent S.Store desk.old)
         (desk_state desk.old) question result (desk_state desk.new) }

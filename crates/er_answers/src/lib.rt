@@ -5,4 +5,4 @@ mod asking;
 mod question;
 
 pub use asking::{ask, reply_told};
-pub use question::{Question, Told, View};
+pub use question::{Answer, Question, View};

@@ -30,7 +30,7 @@ pub enum View {
 
 /// An answer of the desk.
 #[derive(Drop)]
-pub enum Told {
+pub enum Answer {
     Accepted(Receipt),
     Text(Items<u8>),
     /// A slip as JSON.

@@ -10,14 +10,14 @@ use Rattle.er_desk.specs.Desk.{DeskState, HoldsOwnEvent, Point, placed_at, point
 use Rattle.er_desk.specs.{Asking.{Asks, SessionsJoin, join_sessions, later_in_doubt}, History.LeadsTo, Migrating.{MayMigrate, Migrates}}
 use Rattle.er_desk.specs.{Run.{Session, IsStoredEnd, no_session}}
 use Rattle.er_answers.specs.{Answers.{AnswersDesk, AsksFor, MovesFile, session_at}, Question.moved_told}
-use Rattle.er_answers.specs.declared.question.{Question.Question, Told.Told}
+use Rattle.er_answers.specs.declared.question.{Question.Question, Answer.Answer}
 use Rattle.er_answers.specs.declared.question.Question.TheVariants.{Submit, Standings, Show, Slip as SlipOf, Migrate}
 use Rattle.er_cli.specs.{GoingOn.LeadsToVersion, Sessions.{AnswersAll, AsksAll, AsksMigration, LeadToVersion}}
 use Rattle.er_cli.proofs.GoingOn.{Stays, goes_asking, goes_moving}
 
 -- one thing more
-pub asks_push : {S : Type 0} (g : Ghosts S) (first old new : Desk S g) (questions : List Question) (answers : List Told)
-    (question : Question) (told : Told) → AsksAll g first questions answers old → AsksFor g old question told new
+pub asks_push : {S : Type 0} (g : Ghosts S) (first old new : Desk S g) (questions : List Question) (answers : List Answer)
+    (question : Question) (told : Answer) → AsksAll g first questions answers old → AsksFor g old question told new
     → AnswersDesk (HasCleanDisk (state g new) × HoldsOwnEvent g old) (desk_state old) question told (desk_state new)
     → AsksAll g first (questions ++ question ∷ []) (answers ++ told ∷ []) new
 asks_push {S} g first old new [] [] question told is asked answered =
@@ -90,7 +90,7 @@ leads_nowhere old new (Ok serial) it stopped v = absurd (true≢false (sym stopp
 leads_nowhere old new (Err why) it stopped v = inl refl
 
 module _ {S : Type 0} (g : Ghosts S) (old new : Desk S g) where
-  went_moving : (told : Told) → MovesFile g old told new → Went g (Migrate ≡ Migrate) old no_session (LeadsToVersion Migrate told) new
+  went_moving : (told : Answer) → MovesFile g old told new → Went g (Migrate ≡ Migrate) old no_session (LeadsToVersion Migrate told) new
   went_moving told it =
       let does = it.does in
       let same = moved_point (desk_state old) (desk_state new) it.moved does.turn in
@@ -99,12 +99,12 @@ module _ {S : Type 0} (g : Ghosts S) (old new : Desk S g) where
         waits = λ stopped. (
           does.waits (inl stopped),
           refl,
-          λ v. subst (λ (a : Told). LeadsToVersion Migrate a v v) (sym it.tells)
+          λ v. subst (λ (a : Answer). LeadsToVersion Migrate a v v) (sym it.tells)
               (leads_nowhere (desk_state old) (desk_state new) it.moved does.turn stopped v),
         );
         leads = record { event = ap (λ (p : Point). p.event) same; serial = ap (λ (p : Point). p.serial) same ∙ omega arith };
         sure = λ runs. refl;
-        within = λ runs. subst (λ (a : Told). LeadsToVersion Migrate a (version_in old) (version_in new)) (sym it.tells)
+        within = λ runs. subst (λ (a : Answer). LeadsToVersion Migrate a (version_in old) (version_in new)) (sym it.tells)
             (subst (λ (v : ℕ). LeadsToVersion Migrate (moved_told it.moved) (version_in old) v)
             (sym (moved_second (desk_state old) (desk_state new) it.moved does.turn runs)) (leads_second it.moved (version_in old)));
         represents = λ may clean. does.represents (may refl (does.clean clean)) clean;
@@ -112,7 +112,7 @@ module _ {S : Type 0} (g : Ghosts S) (old new : Desk S g) where
         crash = λ may. (goes_moving g old told new it (may refl)).crash;
       }
 
-  went_one : (question : Question) (told : Told) → AsksFor g old question told new
+  went_one : (question : Question) (told : Answer) → AsksFor g old question told new
       → Went g (question ≡ Migrate) old (session_at question told (desk_state new).needs_reopen) (LeadsToVersion question told) new
   went_one (Submit command) told it = went_asking g _ old new _ it
   went_one Standings told it = went_asking g _ old new _ it
@@ -197,11 +197,11 @@ module _ (join : SessionsJoin) {S : Type 0} (g : Ghosts S) (A B : Type 0) (old m
 -- ---- all of it
 
 -- a desk that was stopped reads nothing, and one that runs reads tables that represent its event
-fully : (R : Type 0) (old new : DeskState) (question : Question) (told : Told) → (IsFalse old.needs_reopen → R)
+fully : (R : Type 0) (old new : DeskState) (question : Question) (told : Answer) → (IsFalse old.needs_reopen → R)
     → AnswersDesk R old question told new → AnswersDesk (Unit {0}) old question told new
 fully R old new question told given it = record { does = it.does; due = λ _ runs. it.due (given runs) runs }
 
-pub record Over {S : Type 0} (g : Ghosts S) (old : Desk S g) (questions : List Question) (answers : List Told) (session : Session)
+pub record Over {S : Type 0} (g : Ghosts S) (old : Desk S g) (questions : List Question) (answers : List Answer) (session : Session)
     (new : Desk S g) : Type 0 where
   pub went : Went g (AsksMigration questions) old session (LeadToVersion questions answers) new
   pub answered : HasCleanDisk (state g new) → (IsFalse (desk_state old).needs_reopen → HoldsOwnEvent g old)
@@ -209,7 +209,7 @@ pub record Over {S : Type 0} (g : Ghosts S) (old : Desk S g) (questions : List Q
       → AnswersAll (desk_state old) questions answers session (desk_state new)
 
 module _ (join : SessionsJoin) {S : Type 0} (g : Ghosts S) (new : Desk S g) (rests : Asks g new no_session new) where
-  pub all_over : (questions : List Question) (answers : List Told) (old : Desk S g) → AsksAll g old questions answers new
+  pub all_over : (questions : List Question) (answers : List Answer) (old : Desk S g) → AsksAll g old questions answers new
       → (session : Session) × Over g old questions answers session new
   all_over [] [] old is = (
     no_session,

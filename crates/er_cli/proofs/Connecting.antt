@@ -7,7 +7,7 @@ use Rattle.er_desk.specs.{declared.desk.Desk.Desk, Asking.join_sessions, Desk.{H
 use Rattle.er_event.specs.declared.{commands.Command.TheVariants.{Result as ReportResult}, scores.Games.Games}
 use Rattle.er_desk.specs.{Reply.Reply, Run.session_of}
 use Rattle.er_answers.specs.{Answers.{replies_of, session_at}, Question.reply_told}
-use Rattle.er_answers.specs.declared.question.{Question.TheVariants.Submit, Told.Told}
+use Rattle.er_answers.specs.declared.question.{Question.TheVariants.Submit, Answer.Answer}
 use Rattle.er_slips.specs.{Response.ResponseValue, Serving.{AnswersRequest, EndsServing, IsServed, IsUnserved, Serves}}
 use Rattle.er_slips.specs.{declared.request.wanted.Request.Request}
 use Rattle.er_slips.specs.{declared.request.wanted.Request.TheVariants.{Standings, Pairings, Slip, Report}}
@@ -21,13 +21,13 @@ use Rattle.er_cli.specs.{Help.stream, inside.Serving.{listening_text, served_tex
 use Rattle.er_cli.proofs.Sending.{part_after, part_first, whole_part}
 
 -- the session of a score that was handed in
-one_reply : (round table : ℕ) (score : Games) (told : Told) (reply : Reply) → told ≡ reply_told reply → (stopped : Bool)
+one_reply : (round table : ℕ) (score : Games) (told : Answer) (reply : Reply) → told ≡ reply_told reply → (stopped : Bool)
     → session_at (Submit (ReportResult round table score)) told stopped ≡ session_of (ReportResult round table score ∷ [])
     (reply ∷ []) stopped
 one_reply round table score told (Ok receipt) is stopped =
-    ap (λ (t : Told). session_of (ReportResult round table score ∷ []) (replies_of t) stopped) is
+    ap (λ (t : Answer). session_of (ReportResult round table score ∷ []) (replies_of t) stopped) is
 one_reply round table score told (Err why) is stopped =
-    ap (λ (t : Told). session_of (ReportResult round table score ∷ []) (replies_of t) stopped) is
+    ap (λ (t : Answer). session_of (ReportResult round table score ∷ []) (replies_of t) stopped) is
 
 -- what serving a request does to the desk
 module _ (Represented : Type 0) (old : DeskState) (session : Session) (new : DeskState) where

@@ -36,7 +36,7 @@ use Rattle.er_event.specs.{declared.slips.SlipRow.SlipRow, Slip.slip_of, declare
 use Rattle.er_store.specs.Fault.{IsReadFault}
 use Rattle.er_answers.specs.Answers.{AnswersDesk, AsksFor, DoesAsked, MovesFile, session_at}
 use Rattle.er_answers.specs.{Due.{IsAnswerAt, IsDueAt, OrFault}, Question.{IsRowsTold, IsSlipTold, moved_told, reply_told, slip_told}}
-use Rattle.er_answers.specs.declared.question.{Question.Question, Told.Told, Told.TheVariants.{Accepted, Refused}}
+use Rattle.er_answers.specs.declared.question.{Question.Question, Answer.Answer, Answer.TheVariants.{Accepted, Refused}}
 use Rattle.er_answers.specs.declared.question.Question.TheVariants.{Submit, Standings, Show, Slip as SlipOf, Migrate}
 use Rattle.er_cli.specs.declared.action.{Task.Task, Task.TheVariants.{Ask, Import, Serve}}
 use Rattle.er_cli.specs.GoingOn.{GoesOnBy, LeadsToVersion, MakesNoOther, MayMoveTables, StaysUnopened}
@@ -56,7 +56,7 @@ abbrev is_submitted : Question → Bool
 is_submitted (Submit command) = true
 is_submitted question = false
 
-abbrev is_accepted : Told → Bool
+abbrev is_accepted : Answer → Bool
 is_accepted (Accepted receipt) = true
 is_accepted told = false
 
@@ -72,11 +72,11 @@ one_kept command = record { acknowledged = command ∷ []; in_doubt = None }
 other_kept : {P : Type 0} (question : Question) (command : Command) → question ≡ Submit command → is_submitted question ≡ false → P
 other_kept question command asked other = absurd (true≢false (sym (ap is_submitted asked) ∙ other))
 
-pub kept_alone : (old new : DeskState) (question : Question) (told : Told) → DoesAsked old question told new
+pub kept_alone : (old new : DeskState) (question : Question) (told : Answer) → DoesAsked old question told new
     → (command : Command) (receipt : Receipt) → question ≡ Submit command → told ≡ Accepted receipt
     → session_at question told new.needs_reopen ≡ one_kept command
 kept_alone old new (Submit c) told (Ok given, turn, is) command receipt asked tells =
-    subst (λ (a : Told). session_at (Submit c) a new.needs_reopen ≡ one_kept command) (sym is)
+    subst (λ (a : Answer). session_at (Submit c) a new.needs_reopen ≡ one_kept command) (sym is)
     (subst (λ (b : Bool). session_at (Submit c) (Accepted given) b ≡ one_kept command) (sym (turn_runs old new c given turn))
     (ap one_kept (ap (command_or c) asked)))
 kept_alone old new (Submit c) told (Err why, turn, is) command receipt asked tells =
@@ -106,14 +106,14 @@ stopped_by passing old new read (inl (going, same, was)) runs stopped = still ol
 stopped_by passing old new read (inr (inl (going, same, why, fault, is))) runs stopped = (why, fault, is)
 stopped_by passing old new read (inr (inr (was, same, is))) runs stopped = absurd (true≢false (sym was ∙ runs))
 
-rows_refused : (event : EventValue) (read : Result (Vec Row Global) Refusal) (why : Refusal) (told : Told) → read ≡ Err why
+rows_refused : (event : EventValue) (read : Result (Vec Row Global) Refusal) (why : Refusal) (told : Answer) → read ≡ Err why
     → IsRowsTold event read told → told ≡ Refused why
 rows_refused event read why told is tells = subst (λ (r : Result (Vec Row Global) Refusal). IsRowsTold event r told) is tells
 
-slip_refused : (read : Result SlipRow Refusal) (why : Refusal) (told : Told) → read ≡ Err why → IsSlipTold read told → told ≡ Refused why
+slip_refused : (read : Result SlipRow Refusal) (why : Refusal) (told : Answer) → read ≡ Err why → IsSlipTold read told → told ≡ Refused why
 slip_refused read why told is tells = subst (λ (r : Result SlipRow Refusal). IsSlipTold r told) is tells
 
-no_rows : (point : Point) (version : ℕ) (why : Refusal) (told : Told) → told ≡ Refused why
+no_rows : (point : Point) (version : ℕ) (why : Refusal) (told : Answer) → told ≡ Refused why
     → OrFault (IsDueAt version point Standings told) told → OrFault ⊥ told
 no_rows point version why told is (inl (rows, are, shows)) = absurd (let both = sym is ∙ shows in cc)
 no_rows point version why told is (inr fault) = inr fault
@@ -123,17 +123,17 @@ read_fault_is_none why (inl (inl memory)) is = cc
 read_fault_is_none why (inl (inr refused)) is = cc
 read_fault_is_none why (inr row) is = cc
 
-no_slip : (slip : Option SlipRow) (why : Refusal) (told : Told) → IsReadFault why → told ≡ Refused why → told ≡ slip_told slip → ⊥
+no_slip : (slip : Option SlipRow) (why : Refusal) (told : Answer) → IsReadFault why → told ≡ Refused why → told ≡ slip_told slip → ⊥
 no_slip None why told fault is shows = read_fault_is_none why fault (let both : Refused why ≡ Refused NoSuchMatch = sym is ∙ shows in cc)
 no_slip (Some row) why told fault is shows = let both : Refused why ≡ slip_told (Some row) = sym is ∙ shows in cc
 
-slip_fault : (version : ℕ) (point : Point) (round table : ℕ) (why : Refusal) (told : Told) → IsReadFault why → told ≡ Refused why
+slip_fault : (version : ℕ) (point : Point) (round table : ℕ) (why : Refusal) (told : Answer) → IsReadFault why → told ≡ Refused why
     → OrFault (IsDueAt version point (SlipOf round table) told) told → OrFault ⊥ told
 slip_fault version point round table why told fault is (inl shows) =
     absurd (no_slip (slip_of point.event round table) why told fault is shows)
 slip_fault version point round table why told fault is (inr due) = inr due
 
-moved_fault : (old new : DeskState) (moved : Result ℕ Refusal) (told : Told) → IsFalse old.needs_reopen
+moved_fault : (old new : DeskState) (moved : Result ℕ Refusal) (told : Answer) → IsFalse old.needs_reopen
     → Migrates old moved new → told ≡ moved_told moved → IsTrue new.needs_reopen → OrFault ⊥ told
 moved_fault old new (Ok serial) told runs it is stopped =
     absurd (true≢false (sym stopped ∙ (ap (λ (s : DeskState). s.needs_reopen) it.2 ∙ runs)))
@@ -141,7 +141,7 @@ moved_fault old new (Err why) told runs (inl it) is stopped = still old new it.2
 moved_fault old new (Err why) told runs (inr it) is stopped = inr (why, it.2, is)
 
 -- what stopped a desk over its own tables was told
-pub doubt_fault : (Represented : Type 0) (old new : DeskState) (question : Question) (told : Told) → Represented
+pub doubt_fault : (Represented : Type 0) (old new : DeskState) (question : Question) (told : Answer) → Represented
     → IsFalse old.needs_reopen
     → AnswersDesk Represented old question told new → IsTrue new.needs_reopen → OrFault ⊥ told
 doubt_fault Represented old new question told represented runs answers stopped = by question answers.does (answers.due represented runs)
@@ -189,14 +189,14 @@ pub ends_nowhere : (first : Placed) (trees : Trees) → IsStoredAt first trees �
 ends_nowhere first trees stored = (first.point, inl (record { event = refl; serial = omega arith; taken = tt }), stored)
 
 -- what is moved may be moved, as the file shows that was opened
-pub goes_moving : {S : Type 0} (g : Ghosts S) (old : Desk S g) (told : Told) (new : Desk S g) → MovesFile g old told new
+pub goes_moving : {S : Type 0} (g : Ghosts S) (old : Desk S g) (told : Answer) (new : Desk S g) → MovesFile g old told new
     → (HasCleanDisk (state g old) → MayMigrate g old)
     → Goes g (LeadsToVersion Migrate told) old no_session new
 goes_moving g old told new it may = record {
   clean = it.does.clean;
   sure = λ runs. refl;
   crash = λ shows clean trees left.
-      subst (λ (a : Told). (v : ℕ) × LeadsToVersion Migrate a (version_in old) v
+      subst (λ (a : Answer). (v : ℕ) × LeadsToVersion Migrate a (version_in old) v
       × IsStoredEnd (placed_at (point_of (desk_state old)) v) no_session trees) (sym it.tells)
       (by it.moved it.does shows clean trees left);
 }
@@ -217,7 +217,7 @@ goes_moving g old told new it may = record {
     ]
 
 -- over tables of version 2 they represent the event while the desk runs
-pub represents_second : {S : Type 0} (g : Ghosts S) (old new : Desk S g) (question : Question) (told : Told)
+pub represents_second : {S : Type 0} (g : Ghosts S) (old new : Desk S g) (question : Question) (told : Answer)
     → AsksFor g old question told new → version_in old ≡ 2 → HasCleanDisk (state g new) → HoldsOwnEvent g old
     → IsFalse (desk_state new).needs_reopen
     → HoldsOwnEvent g new
@@ -227,7 +227,7 @@ represents_second g old new (Show view) told it second = it.as_call.represents
 represents_second g old new (SlipOf round table) told it second = it.as_call.represents
 represents_second g old new Migrate told it second = it.does.represents (inl second)
 
-pub stays_second : {S : Type 0} (g : Ghosts S) (old new : Desk S g) (question : Question) (told : Told)
+pub stays_second : {S : Type 0} (g : Ghosts S) (old new : Desk S g) (question : Question) (told : Answer)
     → AsksFor g old question told new → version_in old ≡ 2 → version_in new ≡ 2
 stays_second g old new (Submit command) told it second = it.as_call.version ∙ second
 stays_second g old new Standings told it second = it.as_call.version ∙ second
@@ -326,13 +326,13 @@ made_begins law d image name rounds cut desk set_up made asks what put awaits =
 
 -- ---- what was done
 
-one_work : (question : Question) (command : Command) (told : Told) (needs_reopen : Bool) → question ≡ Submit command
+one_work : (question : Question) (command : Command) (told : Answer) (needs_reopen : Bool) → question ≡ Submit command
     → work_of question told needs_reopen ≡ Commands (session_at question told needs_reopen)
 one_work question command told needs_reopen is =
     subst (λ (q : Question). work_of q told needs_reopen ≡ Commands (session_at q told needs_reopen)) (sym is) refl
 
 -- a question does this to the file of a desk
-pub works_for : {S : Type 0} (g : Ghosts S) (old new : Desk S g) (question : Question) (told : Told) → AsksFor g old question told new
+pub works_for : {S : Type 0} (g : Ghosts S) (old new : Desk S g) (question : Question) (told : Answer) → AsksFor g old question told new
     → WorksOn g old (work_of question told (desk_state new).needs_reopen) new
 works_for g old new (Submit command) told it = it
 works_for g old new Standings told it = it
@@ -362,7 +362,7 @@ module _ (law : NextSessions) (image : Image) (new : Point) (first : Placed) (en
   from = law new first.point ends was.begins was.history
 
   module _ {D : Type 0} (d : disk.Ghosts D) (what : Remains D d) where
-    answers_question : (desk last : Desk (FileStore D d) over_files) (question : Question) (told : Told)
+    answers_question : (desk last : Desk (FileStore D d) over_files) (question : Question) (told : Answer)
         → IsFound d image first desk → (HasCleanDisk (state over_files last) → HasCleanDisk (state over_files desk))
         → IsFalse (desk_state desk).needs_reopen
         → AnswersDesk (HasCleanDisk (state over_files last) × HoldsOwnEvent over_files desk) (desk_state desk) question told
@@ -472,7 +472,7 @@ module _ {D : Type 0} (d : disk.Ghosts D) (world : World) (file : List ℕ) (wha
 
   module _ (new : Point) (first : Placed) (ends : List Ended) (was : RecoversHistory (world.image file) new ends first) where
     -- If there is a history, no other event is made on a clean disk.
-    no_other : (name : List ℕ) (rounds cut : ℕ) (told : Told) → MakesEvent d (world.image file) name rounds cut told what
+    no_other : (name : List ℕ) (rounds cut : ℕ) (told : Answer) → MakesEvent d (world.image file) name rounds cut told what
         → MakesNoOther d new ends first told what
     no_other name rounds cut told (inl (set_up, is, (desk, made, put, begins))) = record {
       refused = λ opened. absurd (put_clean ⊥ (state over_files desk) what put.closes (made.absent first was.left)

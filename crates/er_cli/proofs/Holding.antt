@@ -21,7 +21,7 @@ use Rattle.er_store.specs.{Fault.IsFault, Representing.{IsStoredIn, AfterCrash, 
 use Rattle.er_desk.specs.{declared.desk.Desk.Desk, Desk.{Point, Placed, DeskState, IsStoredAt, placed_at, desk_state, state}}
 use Rattle.er_desk.specs.{Run.{Session, no_session}, History.Ended, Opening.HoldsStill}
 use Rattle.er_desk.specs.{Headline.{IsBeginning, RecoversHistory, and_then}, Asking.{Asks, NextSessions, GoesOnFrom, SessionsJoin}}
-use Rattle.er_answers.specs.declared.question.{Question.Question, Told.Told}
+use Rattle.er_answers.specs.declared.question.{Question.Question, Answer.Answer}
 use Rattle.er_cli.specs.declared.remains.{Remains.Remains}
 use Rattle.er_cli.specs.Next.{RecoversIn}
 use Rattle.sqlite_wal.specs.{Files.outcomes, Reads.AreClean}
@@ -105,7 +105,7 @@ module _ {D : Type 0} {d : disk.Ghosts D} where
 
 -- a disk that is clean after a session was clean before
 pub ran_clean : {D : Type 0} (d : disk.Ghosts D) (join : SessionsJoin) (desk : Desk (FileStore D d) over_files) (questions : List Question)
-    (answers : Result (Vec Told Global) Refusal) (now : Result (Files D) (Remains D d)) → AsksOver desk questions answers now
+    (answers : Result (Vec Answer Global) Refusal) (now : Result (Files D) (Remains D d)) → AsksOver desk questions answers now
     → {Is : Type 0}
     → (HasCleanDisk (state over_files desk) → Is) → IfCleanFiles Is now
 ran_clean d join desk questions (Ok them) now it {Is} is = over_clean Is (state over_files it.last) now it.let_go
@@ -170,7 +170,7 @@ module _ {D : Type 0} (d : disk.Ghosts D) (law : NextSessions) (files : Files D)
   pub ran_holds : SessionsJoin → (desk : Desk (FileStore D d) over_files) → IsFalse (desk_state desk).needs_reopen
       → IsFound d (image_of d files) first desk
       → (questions : List Question) → MayMoveFor (image_of d files) first questions
-      → (answers : Result (Vec Told Global) Refusal) (now : Result (Files D) (Remains D d)) → AsksOver desk questions answers now
+      → (answers : Result (Vec Answer Global) Refusal) (now : Result (Files D) (Remains D d)) → AsksOver desk questions answers now
       → HoldsNext d new ends first files questions answers now
   ran_holds join desk runs found questions move (Ok them) now it =
       let over = all_over join over_files it.last it.rests questions them.items desk it.asked in
@@ -215,13 +215,13 @@ so_far {A} all seen x first (few, is) =
     ∙ append_assoc seen (x ∷ []) (drop (n + 1) all)
 
 module _ (new : Point) (P Q : List Ended → Placed → Image → Type 0) (questions : Vec Question Global)
-    (answers : Result (Vec Told Global) Refusal) where
+    (answers : Result (Vec Answer Global) Refusal) where
   abbrev Goes_on : Type 0
   Goes_on = (ends : List Ended) (first : Placed) (image : Image) → P ends first image → RecoversHistory image new ends first
       → HoldsThen new Q ends first image (questions ∷ []) (answers ∷ [])
 
   -- one session more
-  pub then_push : Goes_on → (done : List (Vec Question Global)) (before : List (Result (Vec Told Global) Refusal)) (ends : List Ended)
+  pub then_push : Goes_on → (done : List (Vec Question Global)) (before : List (Result (Vec Answer Global) Refusal)) (ends : List Ended)
       (first : Placed) (image : Image) → RecoversHistory image new ends first → HoldsThen new P ends first image done before
       → HoldsThen new Q ends first image (done ++ questions ∷ []) (before ++ answers ∷ [])
   then_push goes [] [] ends first image was holds = goes ends first image holds was
@@ -237,7 +237,7 @@ module _ (new : Point) (P Q : List Ended → Placed → Image → Type 0) (quest
     then_push goes done before (and_then ends it.0 it.1.point) it.1 it.2 it.5 it.6,
   ))
 
-module _ {D : Type 0} (d : disk.Ghosts D) (new : Point) (questions : Vec Question Global) (answers : Result (Vec Told Global) Refusal)
+module _ {D : Type 0} (d : disk.Ghosts D) (new : Point) (questions : Vec Question Global) (answers : Result (Vec Answer Global) Refusal)
     (files : Files D) (left : Result (Files D) (Remains D d)) (last now : Files D) (is : left ≡ Ok last)
     (clean : AreClean d now.log now.db) (last_clean : AreClean d last.log last.db)
     (may_leave : outcomes d last.log last.db (image_of d now))
@@ -260,7 +260,7 @@ module _ {D : Type 0} (d : disk.Ghosts D) (new : Point) (questions : Vec Questio
       ))
 
   pub holds_more : (ends : List Ended) (first : Placed) (image : Image) → RecoversHistory image new ends first
-      → (done : List (Vec Question Global)) (before : List (Result (Vec Told Global) Refusal))
+      → (done : List (Vec Question Global)) (before : List (Result (Vec Answer Global) Refusal))
       → HoldsThen new (λ _ _ then. then ≡ image_of d files) ends first image done before
       → HoldsThen new (λ _ _ then. then ≡ image_of d now) ends first image (done ++ questions ∷ []) (before ++ answers ∷ [])
   holds_more ends first image was done before holds =

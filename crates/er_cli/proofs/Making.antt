@@ -12,7 +12,7 @@ use Rattle.std.proofs.lemmas.Bool.{le-leb}
 use Rattle.er_share.specs.declared.TheConstants.{MAX_ROUNDS}
 use Rattle.er_desk.specs.{declared.desk.Desk.Desk, Files.HasMade, History.{Ended, new_point}, Run.no_session}
 use Rattle.er_desk.specs.{Asking.NextSessions, Headline.{Recovers, RecoversHistory}}
-use Rattle.er_answers.specs.declared.question.Told.TheVariants.{Refused}
+use Rattle.er_answers.specs.declared.question.Answer.TheVariants.{Refused}
 use Rattle.std.proofs.Common.{◌⊎◌}
 use Rattle.sqlite.specs.{Tree.Trees, Effect.{Database, IsDatabase}, State.HasCleanDisk, Files.{AreFoundIn, HoldsDatabase, file_state}}
 use Rattle.er_store.specs.{Fault.IsFault, Beside.IsStoredBeside, Representing.{Either, IsStoredIn, AfterCrash}}

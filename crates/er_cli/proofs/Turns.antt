@@ -4,9 +4,9 @@ use Rattle.std.specs.Prelude.{⊤}
 use Rattle.er_event.specs.{declared.refusals.Refusal.Refusal, declared.refusals.Refusal.TheVariants.{Memory, NoSuchMatch}}
 use Rattle.er_event.specs.declared.commands.Command.{Command}
 use Rattle.er_desk.specs.{Desk.{DeskState, Outcome, Reads}, Migrating.Migrates, Reply.Reply}
-use Rattle.er_answers.specs.{Answers.{AnswersDesk, DoesAsked}, declared.question.{Question.Question, Told.Told}}
+use Rattle.er_answers.specs.{Answers.{AnswersDesk, DoesAsked}, declared.question.{Question.Question, Answer.Answer}}
 use Rattle.er_answers.specs.declared.question.Question.TheVariants.{Submit, Standings, Show, Slip as SlipOf, Migrate}
-use Rattle.er_answers.specs.declared.question.Told.TheVariants.{Refused}
+use Rattle.er_answers.specs.declared.question.Answer.TheVariants.{Refused}
 use Rattle.er_cli.specs.{declared.action.Action.Action, declared.texts.LineAnswer.TheVariants.Asked, Script.LineAnswers}
 
 -- memory may run out for any line, and then all stays as it is
@@ -33,7 +33,7 @@ ran_moving old new (Err why) (inl it) runs = subst (λ (s : DeskState). IsFalse 
 ran_moving old new (Err why) (inr it) runs = it.0
 
 -- a desk that no fault has stopped had none before
-pub ran_before : (old new : DeskState) (question : Question) (told : Told) → DoesAsked old question told new
+pub ran_before : (old new : DeskState) (question : Question) (told : Answer) → DoesAsked old question told new
     → IsFalse new.needs_reopen → IsFalse old.needs_reopen
 ran_before old new (Submit command) told it runs = ran_on old new command it.0 it.1 runs
 ran_before old new Standings told it runs = ran_reading Memory old new it.0 it.1 runs
@@ -42,7 +42,7 @@ ran_before old new (SlipOf round table) told it runs = ran_reading NoSuchMatch o
 ran_before old new Migrate told (moved, it, is) runs = ran_moving old new moved it runs
 
 -- over tables that stand, the answers rest on nothing else
-pub represented_answers : (Represented : Type 0) (old new : DeskState) (question : Question) (told : Told)
+pub represented_answers : (Represented : Type 0) (old new : DeskState) (question : Question) (told : Answer)
     → (IsFalse old.needs_reopen → Represented)
     → AnswersDesk Represented old question told new
     → AnswersDesk ⊤ old question told new

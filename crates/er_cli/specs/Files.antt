@@ -23,8 +23,8 @@ use Rattle.er_desk.specs.History.{Ended, new_point}
 use Rattle.er_desk.specs.Reply.{receipt}
 use Rattle.er_desk.specs.Run.{no_session}
 use Rattle.er_answers.specs.Answers.{MovesFile}
-use Rattle.er_answers.specs.declared.question.Told.{Told}
-use Rattle.er_answers.specs.declared.question.Told.TheVariants.{Accepted, Refused}
+use Rattle.er_answers.specs.declared.question.Answer.{Answer}
+use Rattle.er_answers.specs.declared.question.Answer.TheVariants.{Accepted, Refused}
 use Rattle.er_cli.specs.Remains.{IfUnopened, PutsAway, RecoversSuch, WasOpenedClean}
 use Rattle.er_cli.specs.Next.{GoesTo, RecoversSession}
 use Rattle.er_cli.specs.Tasks.{Work}
@@ -68,7 +68,7 @@ pub record HasMadeNone {D : Type 0} {g : disk.Ghosts D} (image : Image) (new : P
 
 -- An event was made, and its file put away: if no foreign key waited for its tables this begins the empty history, with which the next
 -- command line goes on. Or it was not. What may not be set up so is refused, and no file is given back.
-abbrev pub MakesEvent : {D : Type 0} (g : disk.Ghosts D) → Image → List ℕ → ℕ → ℕ → Told → Remains D g → Type 0
+abbrev pub MakesEvent : {D : Type 0} (g : disk.Ghosts D) → Image → List ℕ → ℕ → ℕ → Answer → Remains D g → Type 0
 MakesEvent {D} g image name rounds cut told what =
     (IsSetUp name rounds cut × (told ≡ Accepted (receipt 0))
     × ((desk : Desk (FileStore D g) over_files) × HasMade image name rounds cut desk × PutsAway desk what

@@ -18,8 +18,8 @@ use Rattle.er_desk.specs.Run.{no_session}
 use Rattle.er_desk.specs.History.{Ended}
 use Rattle.er_answers.specs.declared.question.Question.{Question}
 use Rattle.er_answers.specs.declared.question.Question.TheVariants.{Migrate}
-use Rattle.er_answers.specs.declared.question.Told.{Told}
-use Rattle.er_answers.specs.declared.question.Told.TheVariants.{Accepted, Refused}
+use Rattle.er_answers.specs.declared.question.Answer.{Answer}
+use Rattle.er_answers.specs.declared.question.Answer.TheVariants.{Accepted, Refused}
 use Rattle.er_cli.specs.Remains.{IfUnopened, WasOpenedClean}
 use Rattle.er_cli.specs.Next.{GoesTo, RecoversSession, WasOpened}
 use Rattle.er_cli.specs.Tasks.{Work}
@@ -28,7 +28,7 @@ use Rattle.er_cli.specs.declared.remains.Remains.{Remains}
 
 -- The version of the tables that are left. A migration leads to version 2, and if it was cut off it may have done so or not. Nothing
 -- else changes it, and nothing leads back.
-abbrev pub LeadsToVersion : Question → Told → (was now : ℕ) → Type 0
+abbrev pub LeadsToVersion : Question → Answer → (was now : ℕ) → Type 0
 LeadsToVersion Migrate (Accepted receipt) was now = now ≡ 2
 LeadsToVersion Migrate (Refused why) was now = (now ≡ was) ⊎ (now ≡ 2)
 LeadsToVersion question told was now = now ≡ was
@@ -49,7 +49,7 @@ GoesOnBy d image new ends first (Migration told) what =
 
 -- An event was to be made where there is a history. None was: it is refused since there is one, or for what was asked, or memory or the
 -- device fails. Nothing was asked, and what is left is what the history left.
-pub record MakesNoOther {D : Type 0} (d : disk.Ghosts D) (new : Point) (ends : List Ended) (first : Placed) (told : Told)
+pub record MakesNoOther {D : Type 0} (d : disk.Ghosts D) (new : Point) (ends : List Ended) (first : Placed) (told : Answer)
     (what : Remains D d) : Type 0 where
   -- if it was opened, then on a clean disk
   pub refused : (WasOpened what → WasOpenedClean what)

@@ -5,8 +5,8 @@ use Rattle.std.specs.Str.{bytes_eq}
 use Rattle.std.specs.Io.KnownBytes.{Appends}
 use Rattle.er_event.specs.declared.refusals.Refusal.{Refusal}
 use Rattle.er_event.specs.declared.refusals.Refusal.TheVariants.{Memory, NeedsReopen, Store}
-use Rattle.er_answers.specs.declared.question.Told.{Told}
-use Rattle.er_answers.specs.declared.question.Told.TheVariants.{Refused}
+use Rattle.er_answers.specs.declared.question.Answer.{Answer}
+use Rattle.er_answers.specs.declared.question.Answer.TheVariants.{Refused}
 use Rattle.er_words.specs.Line.{subcommand_of}
 use Rattle.er_cli.specs.Texts.{told_text, AppendsPart}
 use Rattle.er_cli.specs.declared.TheConstants.{DONE, REFUSED, DEVICE, MEMORY}
@@ -102,6 +102,6 @@ abbrev pub Says : List ℕ → ℕ → (meant other : Stream) → ℕ → Type 0
 Says text due meant other status = PutsText text due meant status × (other.after ≡ other.before)
 
 -- a refusal goes to the errors, anything else to the output
-abbrev pub Tells : Told → Printed → Type 0
+abbrev pub Tells : Answer → Printed → Type 0
 Tells (Refused why) p = Says (told_text (Refused why)) (refusal_status why) p.err p.out p.status
 Tells told p = Says (told_text told) DONE p.out p.err p.status

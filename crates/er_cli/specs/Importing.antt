@@ -18,7 +18,7 @@ use Rattle.er_paper.specs.Reading.{ReadsPlayers}
 use Rattle.er_cli.specs.declared.TheConstants.{DONE, REFUSED, DEVICE}
 use Rattle.er_cli.specs.declared.importing.Additions.{Additions}
 use Rattle.er_cli.specs.declared.importing.TheConstants.{MAX_LIST_BYTES}
-use Rattle.er_answers.specs.declared.question.Told.TheVariants.{Refused}
+use Rattle.er_answers.specs.declared.question.Answer.TheVariants.{Refused}
 use Rattle.er_cli.specs.Help.{Printed, PutsText, Says, Tells, refusal_status}
 use Rattle.er_cli.specs.Texts.{told_text, AppendsPart}
 

@@ -8,8 +8,8 @@ use Rattle.er_store.specs.Fault.{IsFault}
 use Rattle.er_desk.specs.Desk.{DeskState, running_at}
 use Rattle.er_desk.specs.History.{new_point}
 use Rattle.er_answers.specs.Answers.{AnswersDesk}
-use Rattle.er_answers.specs.declared.question.Told.{Told}
-use Rattle.er_answers.specs.declared.question.Told.TheVariants.{Accepted, Refused}
+use Rattle.er_answers.specs.declared.question.Answer.{Answer}
+use Rattle.er_answers.specs.declared.question.Answer.TheVariants.{Accepted, Refused}
 use Rattle.er_cli.specs.Action.{script_action}
 use Rattle.er_cli.specs.declared.action.Action.{Action}
 use Rattle.er_cli.specs.declared.action.Action.TheVariants.{Init, Open}
@@ -20,13 +20,13 @@ use Rattle.er_cli.specs.Setup.{init_checks}
 use Rattle.er_cli.specs.Texts.{answer_text, AppendsPart}
 
 -- an event is made, or memory or the store fails, and all stays as it is
-abbrev pub CreatesEvent : Option DeskState → List ℕ → ℕ → ℕ → Told → Option DeskState → Type 0
+abbrev pub CreatesEvent : Option DeskState → List ℕ → ℕ → ℕ → Answer → Option DeskState → Type 0
 CreatesEvent old name rounds cut told new =
     ((told ≡ Accepted (record { serial = 0 })) × (new ≡ Some (running_at (new_point name rounds cut) 2)))
     ⊎ ((why : Refusal) × IsFault why × (told ≡ Refused why) × (new ≡ old))
 
 -- the answer to setting up an event
-abbrev pub SetsUp : Option DeskState → List ℕ → ℕ → ℕ → Told → Option DeskState → Type 0
+abbrev pub SetsUp : Option DeskState → List ℕ → ℕ → ℕ → Answer → Option DeskState → Type 0
 SetsUp old name rounds cut told new =
     MatchOption (first_refusal (init_checks (is_some old) name rounds cut))
     (CreatesEvent old name rounds cut told new)
@@ -35,11 +35,11 @@ SetsUp old name rounds cut told new =
 -- The answer to an action, and the desk's state then. The tables in memory represent its event. All but `init`
 -- need an event. A script imports no list, and serves no clients.
 abbrev pub Acts : Option DeskState → Action → LineAnswer → Option DeskState → Type 0
-Acts old (Init name rounds cut) answer new = (told : Told) × SetsUp old name rounds cut told new × (answer ≡ Asked told)
+Acts old (Init name rounds cut) answer new = (told : Answer) × SetsUp old name rounds cut told new × (answer ≡ Asked told)
 Acts old (Open (Import list)) answer new = (answer ≡ Usage) × (new ≡ old)
 Acts None (Open (Ask question)) answer new = (answer ≡ Asked (Refused NoEvent)) × (new ≡ None)
 Acts (Some old) (Open (Ask question)) answer new =
-    (told : Told) × (next : DeskState) × AnswersDesk ⊤ old question told next × (answer ≡ Asked told) × (new ≡ Some next)
+    (told : Answer) × (next : DeskState) × AnswersDesk ⊤ old question told next × (answer ≡ Asked told) × (new ≡ Some next)
 Acts old (Open (Serve port count)) answer new = (answer ≡ Usage) × (new ≡ old)
 
 -- The answer to a line. Memory may run out as it is read.

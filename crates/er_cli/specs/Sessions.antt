@@ -25,7 +25,7 @@ use Rattle.er_desk.specs.History.{Ended}
 use Rattle.er_answers.specs.Answers.{AnswersDesk, AsksFor, session_at}
 use Rattle.er_answers.specs.declared.question.Question.{Question}
 use Rattle.er_answers.specs.declared.question.Question.TheVariants.{Migrate}
-use Rattle.er_answers.specs.declared.question.Told.{Told}
+use Rattle.er_answers.specs.declared.question.Answer.{Answer}
 use Rattle.er_cli.specs.GoingOn.{LeadsToVersion, MayMoveTables}
 use Rattle.er_cli.specs.Remains.{IfUnopened, RemainsOf, WasOpenedClean}
 use Rattle.er_cli.specs.Next.{RecoversSession, RecoversIn, WasOpened}
@@ -68,7 +68,7 @@ AsksMigration [] = ⊥
 AsksMigration (question ∷ questions) = (question ≡ Migrate) ⊎ AsksMigration questions
 
 -- A desk was asked one thing after the other, over its file: these were its answers.
-abbrev pub AsksAll : {S : Type 0} (g : Ghosts S) → Desk S g → List Question → List Told → Desk S g → Type 0
+abbrev pub AsksAll : {S : Type 0} (g : Ghosts S) → Desk S g → List Question → List Answer → Desk S g → Type 0
 AsksAll g old [] [] new = new ≡ old
 AsksAll {S} g old (question ∷ questions) (told ∷ answers) new =
     (mid : Desk S g) × AsksFor g old question told mid
@@ -79,7 +79,7 @@ AsksAll g old (question ∷ questions) [] new = ⊥
 
 -- What a desk whose tables represent its event answers, and the session that the requests are together: each is answered on the event
 -- that those before it left.
-abbrev pub AnswersAll : DeskState → List Question → List Told → Session → DeskState → Type 0
+abbrev pub AnswersAll : DeskState → List Question → List Answer → Session → DeskState → Type 0
 AnswersAll old [] [] session new = (session ≡ no_session) × (new ≡ old)
 AnswersAll old (question ∷ questions) (told ∷ answers) session new =
     (mid : DeskState) × (later : Session) × AnswersDesk (Unit {0}) old question told mid × AnswersAll mid questions answers later new
@@ -88,7 +88,7 @@ AnswersAll old [] (told ∷ answers) session new = ⊥
 AnswersAll old (question ∷ questions) [] session new = ⊥
 
 -- the version of the tables that are left: each request leads from the one before it
-abbrev pub LeadToVersion : List Question → List Told → (was now : ℕ) → Type 0
+abbrev pub LeadToVersion : List Question → List Answer → (was now : ℕ) → Type 0
 LeadToVersion [] [] was now = now ≡ was
 LeadToVersion (question ∷ questions) (told ∷ answers) was now =
     (mid : ℕ) × LeadsToVersion question told was mid × LeadToVersion questions answers mid now
@@ -96,7 +96,7 @@ LeadToVersion [] (told ∷ answers) was now = ⊥
 LeadToVersion (question ∷ questions) [] was now = ⊥
 
 -- if nothing was asked, the version stays
-abbrev pub VersionAfter : List Question → Result (Vec Told Global) Refusal → (was now : ℕ) → Type 0
+abbrev pub VersionAfter : List Question → Result (Vec Answer Global) Refusal → (was now : ℕ) → Type 0
 VersionAfter questions (Ok answers) was now = LeadToVersion questions answers.items was now
 VersionAfter questions (Err why) was now = now ≡ was
 
@@ -104,21 +104,21 @@ VersionAfter questions (Err why) was now = now ≡ was
 
 -- This desk was asked all of it, or there was no memory for the answers, and its files were let go.
 pub record AsksOver {D : Type 0} {d : disk.Ghosts D} (desk : Desk (FileStore D d) over_files) (questions : List Question)
-    (answers : Result (Vec Told Global) Refusal) (files : Result (Files D) (Remains D d)) : Type 0 where
+    (answers : Result (Vec Answer Global) Refusal) (files : Result (Files D) (Remains D d)) : Type 0 where
   pub last : Desk (FileStore D d) over_files
   pub let_go : IsClosedOrKept (state over_files last) files
   pub rests : Asks over_files last no_session last
   pub asked : MatchResult answers (λ them. AsksAll over_files desk questions them.items last) (λ why. (why ≡ Memory) × (last ≡ desk))
 
 -- What one session was that began here: its requests were answered so. Or nothing was asked, and memory or the device failed.
-abbrev pub IsHeld : Placed → List Question → Result (Vec Told Global) Refusal → Session → Type 0
+abbrev pub IsHeld : Placed → List Question → Result (Vec Answer Global) Refusal → Session → Type 0
 IsHeld first questions (Ok answers) session =
     (last : DeskState) × AnswersAll (running_at first.point first.version) questions answers.items session last
 IsHeld first questions (Err why) session = (session ≡ no_session) × IsFault why
 
 -- The history goes on with this session, which began where it ended.
 pub record HoldsNext {D : Type 0} (d : disk.Ghosts D) (new : Point) (ends : List Ended) (first : Placed) (files : Files D)
-    (questions : List Question) (answers : Result (Vec Told Global) Refusal) (now : Result (Files D) (Remains D d)) : Type 0 where
+    (questions : List Question) (answers : Result (Vec Answer Global) Refusal) (now : Result (Files D) (Remains D d)) : Type 0 where
   pub session : Session
   pub held : IfCleanFiles (IsHeld first questions answers session) now
   pub leaves : RecoversAfterSession d (VersionAfter questions answers first.version) new ends session now
@@ -135,7 +135,7 @@ MayMoveFor image first questions = AsksMigration questions → MayMoveTables ima
 -- Sessions were held, each over the bytes that a crash left of the one before it: each goes on with the history. At their end this holds
 -- of the history, of the point where it ended, and of the bytes.
 abbrev pub HoldsThen : Point → (List Ended → Placed → Image → Type 0) → List Ended → Placed → Image → List (Vec Question Global)
-    → List (Result (Vec Told Global) Refusal) → Type 0
+    → List (Result (Vec Answer Global) Refusal) → Type 0
 HoldsThen new Then ends first image [] [] = Then ends first image
 HoldsThen new Then ends first image (questions ∷ later) (answers ∷ more) =
     MayMoveFor image first questions.items
@@ -147,19 +147,19 @@ HoldsThen new Then ends first image (questions ∷ later) [] = ⊥
 
 -- on a clean disk these files are what the last crash left
 abbrev pub HoldsEach : {D : Type 0} (d : disk.Ghosts D) → Point → List Ended → (first : Placed) → Image → List (Vec Question Global)
-    → List (Result (Vec Told Global) Refusal) → Files D → Type 0
+    → List (Result (Vec Answer Global) Refusal) → Files D → Type 0
 HoldsEach d new ends first image sessions answers now =
     AreClean d now.log now.db → HoldsThen new (λ _ _ left. left ≡ image_of d now) ends first image sessions answers
 
 -- The last of those that were begun could not open its files, or not close them. Those before it were held, and this is left of it.
 pub record HoldsSome {D : Type 0} (d : disk.Ghosts D) (new : Point) (ends : List Ended) (first : Placed) (image : Image)
-    (sessions : List (Vec Question Global)) (answers : List (Result (Vec Told Global) Refusal)) (what : Remains D d) : Type 0 where
+    (sessions : List (Vec Question Global)) (answers : List (Result (Vec Answer Global) Refusal)) (what : Remains D d) : Type 0 where
   pub done : List (Vec Question Global)
   pub questions : Vec Question Global
   pub later : List (Vec Question Global)
   pub are : sessions ≡ done ++ questions ∷ later
-  pub before : List (Result (Vec Told Global) Refusal)
-  pub answered : Result (Vec Told Global) Refusal
+  pub before : List (Result (Vec Answer Global) Refusal)
+  pub answered : Result (Vec Answer Global) Refusal
   pub were : answers ≡ before ++ answered ∷ []
   pub files : Files D
   pub held : HoldsEach d new ends first image done before files
@@ -169,6 +169,6 @@ pub record HoldsSome {D : Type 0} (d : disk.Ghosts D) (new : Point) (ends : List
 
 -- all of them were held, or some
 abbrev pub HoldsAll : {D : Type 0} (d : disk.Ghosts D) → Point → List Ended → (first : Placed) → Image → List (Vec Question Global)
-    → List (Result (Vec Told Global) Refusal) → Result (Files D) (Remains D d) → Type 0
+    → List (Result (Vec Answer Global) Refusal) → Result (Files D) (Remains D d) → Type 0
 HoldsAll d new ends first image sessions answers (Ok now) = HoldsEach d new ends first image sessions answers now
 HoldsAll d new ends first image sessions answers (Err what) = HoldsSome d new ends first image sessions answers what

@@ -4,7 +4,7 @@ use Rattle.std.specs.Io.KnownBytes.{Appends, Keeps}
 use Rattle.er_event.specs.declared.refusals.Refusal.TheVariants.{Memory}
 use Rattle.er_cli.specs.declared.TheConstants.{DONE, USAGE, DEVICE, MEMORY}
 use Rattle.er_cli.specs.declared.input.TheConstants.{MAX_SCRIPT_BYTES}
-use Rattle.er_answers.specs.declared.question.Told.TheVariants.{Refused}
+use Rattle.er_answers.specs.declared.question.Answer.TheVariants.{Refused}
 use Rattle.er_cli.specs.declared.texts.LineAnswer.TheVariants.{Usage}
 use Rattle.er_cli.specs.Texts.{answer_text, told_text, AppendsPart}
 use Rattle.er_cli.specs.Input.{lines_of}

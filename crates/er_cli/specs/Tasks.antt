@@ -11,8 +11,8 @@ use Rattle.er_answers.specs.Answers.{AnswersDesk, session_at}
 use Rattle.er_answers.specs.Due.{IsAnswerAt, OrFault}
 use Rattle.er_answers.specs.declared.question.Question.{Question}
 use Rattle.er_answers.specs.declared.question.Question.TheVariants.{Submit, Migrate}
-use Rattle.er_answers.specs.declared.question.Told.{Told}
-use Rattle.er_answers.specs.declared.question.Told.TheVariants.{Accepted}
+use Rattle.er_answers.specs.declared.question.Answer.{Answer}
+use Rattle.er_answers.specs.declared.question.Answer.TheVariants.{Accepted}
 use Rattle.er_cli.specs.declared.action.Task.{Task}
 use Rattle.er_cli.specs.declared.action.Task.TheVariants.{Ask, Import, Serve}
 use Rattle.er_cli.specs.Clients.{Got}
@@ -24,17 +24,17 @@ use Rattle.er_cli.specs.World.{World}
 -- what was done with an event: a session was asked of it, or its tables were to be moved, and this was told
 pub data Work : Type 0 where
   Commands : Session → Work
-  Migration : Told → Work
+  Migration : Answer → Work
 
 -- what one question has done, by what it was told
-abbrev pub work_of : Question → Told → (needs_reopen : Bool) → Work
+abbrev pub work_of : Question → Answer → (needs_reopen : Bool) → Work
 work_of Migrate told needs_reopen = Migration told
 work_of question told needs_reopen = Commands (session_at question told needs_reopen)
 
 -- What a desk is asked for a task, and what is told of it. `Represented` is that its tables represented its event, on a clean disk.
 abbrev pub DoesTask : World → (got : Option (List Got)) → (Represented : Type 0) → DeskState → Task → Work → DeskState → Printed → Type 0
 DoesTask world got Represented old (Ask question) work new p =
-    (told : Told) × AnswersDesk Represented old question told new × (work ≡ work_of question told new.needs_reopen) × Tells told p
+    (told : Answer) × AnswersDesk Represented old question told new × (work ≡ work_of question told new.needs_reopen) × Tells told p
 DoesTask world got Represented old (Import list) work new p =
     (session : Session) × (work ≡ Commands session) × Imports p (world.list list) old session new
 DoesTask world got Represented old (Serve port count) work new p =
@@ -43,7 +43,7 @@ DoesTask world got Represented old (Serve port count) work new p =
 -- ---- at the end of a history
 
 -- One question, and its answer. `Sure` is that the disk is clean, without which no answer is due.
-pub record AnswersQuestion (Sure : Type 0) (first : Placed) (question : Question) (told : Told) (work : Work) : Type 0 where
+pub record AnswersQuestion (Sure : Type 0) (first : Placed) (question : Question) (told : Answer) (work : Work) : Type 0 where
   -- whether the store has had a fault
   pub needs_reopen : Bool
   pub asked : work ≡ work_of question told needs_reopen
@@ -67,6 +67,6 @@ IsScore command = (round table : ℕ) × (score : Games) × (command ≡ ReportR
 -- One request with its answer. Of a list names were enrolled, and of clients scores were handed in: which, and what is printed, is in
 -- `DoesTask`.
 abbrev pub AnswersTask : (Sure : Type 0) → Placed → Task → Work → Printed → Type 0
-AnswersTask Sure first (Ask question) work p = (told : Told) × AnswersQuestion Sure first question told work × Tells told p
+AnswersTask Sure first (Ask question) work p = (told : Answer) × AnswersQuestion Sure first question told work × Tells told p
 AnswersTask Sure first (Import list) work p = (session : Session) × (work ≡ Commands session) × AsksOnly IsEnrolment session
 AnswersTask Sure first (Serve port count) work p = (session : Session) × (work ≡ Commands session) × AsksOnly IsScore session

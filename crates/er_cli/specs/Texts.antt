@@ -3,13 +3,13 @@ use Rattle.std.specs.Prelude.{ℕ, List, [], ◌∷◌, ◌++◌, take, Option, 
 use Rattle.std.specs.Fmt.{decimal}
 use Rattle.std.specs.Io.KnownBytes.{Appends}
 use Rattle.er_event.specs.Refusal.{entry_of}
-use Rattle.er_answers.specs.declared.question.Told.{Told}
-use Rattle.er_answers.specs.declared.question.Told.TheVariants.{Accepted, Text, Slip, Refused}
+use Rattle.er_answers.specs.declared.question.Answer.{Answer}
+use Rattle.er_answers.specs.declared.question.Answer.TheVariants.{Accepted, Text, Slip, Refused}
 use Rattle.er_cli.specs.declared.texts.LineAnswer.{LineAnswer}
 use Rattle.er_cli.specs.declared.texts.LineAnswer.TheVariants.{Asked, Usage}
 
 -- what the desk has answered, as it is printed
-abbrev pub told_text : Told → List ℕ
+abbrev pub told_text : Answer → List ℕ
 told_text (Accepted receipt) = codes "ok " ++ (decimal receipt.serial ++ (10 ∷ []))
 told_text (Text text) = text
 told_text (Slip text) = text

@@ -14,8 +14,8 @@ use Rattle.er_desk.specs.Headline.{RecoversHistory}
 use Rattle.er_desk.specs.History.{Ended}
 use Rattle.er_words.specs.Line.{line_of}
 use Rattle.er_cli.specs.declared.TheConstants.{DONE}
-use Rattle.er_answers.specs.declared.question.Told.{Told}
-use Rattle.er_answers.specs.declared.question.Told.TheVariants.{Refused}
+use Rattle.er_answers.specs.declared.question.Answer.{Answer}
+use Rattle.er_answers.specs.declared.question.Answer.TheVariants.{Refused}
 use Rattle.er_cli.specs.declared.action.Action.{Action}
 use Rattle.er_cli.specs.declared.action.Action.TheVariants.{Init, Open}
 use Rattle.er_cli.specs.declared.action.Task.{Task}
@@ -47,8 +47,8 @@ module _ {D : Type 0} (g : disk.Ghosts D) (world : World) (got : Option (List Go
   -- Over a file that may hold anything, a line makes an event. Or it opens the event there, does one task with it and puts its file away;
   -- or none was opened, and why is told.
   abbrev pub EndsLine : Action → Type 0
-  EndsLine (Init name rounds cut) = TellsAndLeaves (λ (told : Told). Tells told p)
-      (λ (told : Told). MakesEvent g (world.image file) name rounds cut told what)
+  EndsLine (Init name rounds cut) = TellsAndLeaves (λ (told : Answer). Tells told p)
+      (λ (told : Answer). MakesEvent g (world.image file) name rounds cut told what)
   EndsLine (Open task) =
       ((world.is_there file ≢ Some false) × (desk : Desk (FileStore D g) over_files) × (last : Desk (FileStore D g) over_files)
       × HasOpened (world.image file) desk
@@ -82,7 +82,7 @@ module _ {D : Type 0} (d : disk.Ghosts D) (world : World) (file : List ℕ) wher
   abbrev pub GoesOnAction : Action → Remains D d → Printed → Type 0
   GoesOnAction (Init name rounds cut) what p =
       (new : Point) (first : Placed) (ends : List Ended) → RecoversHistory (world.image file) new ends first
-      → TellsAndLeaves (λ (told : Told). Tells told p) (λ (told : Told). MakesNoOther d new ends first told what)
+      → TellsAndLeaves (λ (told : Answer). Tells told p) (λ (told : Answer). MakesNoOther d new ends first told what)
   GoesOnAction (Open task) what p =
       TellsAndLeaves (λ (why : Refusal). Tells (Refused why) p) (λ (why : Refusal). IsNotThere (world.is_there file) why what)
       ⊎ GoesOnTask task what p

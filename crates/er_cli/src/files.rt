@@ -31,7 +31,7 @@ use crate::serving::serve_all;
 use crate::setup::set_up;
 use crate::texts::Print;
 use crate::{DEVICE, end_with, print};
-use er_answers::{Told, ask};
+use er_answers::{Answer, ask};
 use er_desk::Desk;
 use er_desk::laws::next_sessions;
 use er_event::{Cause, Name, Receipt, Refusal};
@@ -109,13 +109,13 @@ fn print_made<D: Disk + Drop, O: Print, E: Print>(
 ) -> Outcome<D>
     ensures put_away { PutsAway desk result.left }
     ensures asks { Asks over_files desk no_session desk }
-    ensures told { Tells (Told.Accepted (receipt 0))
+    ensures told { Tells (Answer.Accepted (receipt 0))
         (prints (O.printed out.old) (O.printed out.new)
         (E.printed err.old) (E.printed err.new) result.status) }
 {
     // A desk that is only looked at asks nothing of its file: this tells the proof.
     desk.asks_nothing();
-    let status = print(out, err, &Told::Accepted(Receipt { serial: 0 }));
+    let status = print(out, err, &Answer::Accepted(Receipt { serial: 0 }));
     Outcome {
         status,
         left: put_away(desk),
@@ -164,7 +164,7 @@ fn listen<H: Host, S: Alter, O: Print, E: Print>(
     // If nobody is listened to, nothing is asked of the file: this tells the proof.
     desk.asks_nothing();
     let Ok(routes) = Routes::new(alloc) else {
-        return print(out, err, &Told::Refused(Refusal::Memory));
+        return print(out, err, &Answer::Refused(Refusal::Memory));
     };
     match host.listen(port) {
         Ok((visitors, at)) => {
@@ -229,11 +229,11 @@ fn tell_no_desk<D: Disk + Drop, O: Print, E: Print>(
     none: OpenError<D>,
 ) -> Outcome<D>
     ensures left { result.left ≡ none.left }
-    ensures told { Tells (Told.Refused none.why) (prints (O.printed out.old) (O.printed out.new)
+    ensures told { Tells (Answer.Refused none.why) (prints (O.printed out.old) (O.printed out.new)
         (E.printed err.old) (E.printed err.new) result.status) }
 {
     Outcome {
-        status: print(out, err, &Told::Refused(none.why)),
+        status: print(out, err, &Answer::Refused(none.why)),
         left: none.left,
     }
 }

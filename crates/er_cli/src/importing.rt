@@ -11,7 +11,7 @@ use crate::host::Host;
 use crate::input::{InputFault, read_whole};
 use crate::texts::{Print, WriteFault};
 use crate::{DEVICE, DONE, REFUSED, end_with, print};
-use er_answers::Told;
+use er_answers::Answer;
 use er_desk::laws::lists_grow;
 use er_desk::{Desk, Reply};
 use er_event::{Command, Items, Name, Refusal};
@@ -151,7 +151,7 @@ fn print_additions<O: Print, E: Print>(out: &mut O, err: &mut E, enrolled: Enrol
         return DEVICE;
     };
     match enrolled.stop {
-        Some(why) => print(out, err, &Told::Refused(why)),
+        Some(why) => print(out, err, &Answer::Refused(why)),
         None => DONE,
     }
 }
@@ -176,7 +176,7 @@ fn import_list<S: Alter, O: Print, E: Print>(
             let enrolled = enrol_all(alloc, desk, &lines);
             print_additions(out, err, enrolled)
         }
-        Err(CsvFault::Memory) => print(out, err, &Told::Refused(Refusal::Memory)),
+        Err(CsvFault::Memory) => print(out, err, &Answer::Refused(Refusal::Memory)),
         Err(fault) => say_fault(err, fault),
     }
 }
@@ -198,7 +198,7 @@ pub fn import<H: Host, S: Alter, O: Print, E: Print>(
     desk.asks_nothing();
     match read_list(alloc, host, path) {
         Ok(list) => import_list(alloc, desk, &list, out, err),
-        Err(InputFault::Memory) => print(out, err, &Told::Refused(Refusal::Memory)),
+        Err(InputFault::Memory) => print(out, err, &Answer::Refused(Refusal::Memory)),
         Err(InputFault::TooLong | InputFault::Read) => end_with(err, "cannot read\n", DEVICE),
     }
 }

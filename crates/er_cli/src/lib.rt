@@ -37,7 +37,7 @@ pub use action::{Action, Task, file_and_action};
 pub use clients::{AcceptFault, Clients, Side, Visit};
 pub use closing::NewLog;
 use complaints::complaint;
-pub use er_answers::{Question, Told, View};
+pub use er_answers::{Answer, Question, View};
 use er_event::Refusal;
 pub use er_words::{ExportKind, FilePath, Line, LineFault, UsageFault, read_words};
 use files::run_line;
@@ -77,7 +77,7 @@ fn print_fault<W: Print>(writer: &mut W, fault: InputFault) -> Result<u8, WriteF
             Ok(USAGE)
         }
         InputFault::Memory => {
-            print_told(writer, &Told::Refused(Refusal::Memory))?;
+            print_told(writer, &Answer::Refused(Refusal::Memory))?;
             Ok(MEMORY)
         }
         InputFault::Read => Ok(DEVICE),
@@ -128,13 +128,13 @@ fn refusal_status(why: &Refusal) -> u8
 }
 
 /// Prints what the desk has answered to the stream that it goes to: a refusal to the errors. Gives the status that comes with it.
-fn print<O: Print, E: Print>(out: &mut O, err: &mut E, told: &Told) -> u8
+fn print<O: Print, E: Print>(out: &mut O, err: &mut E, told: &Answer) -> u8
     ensures { Tells told.now (prints (O.printed out.old) (O.printed out.new)
         (E.printed err.old) (E.printed err.new) result) }
 {
     let (printed, status) = match told {
-        Told::Accepted(_) | Told::Text(_) | Told::Slip(_) => (print_told(out, told), DONE),
-        Told::Refused(why) => (print_told(err, told), refusal_status(why)),
+        Answer::Accepted(_) | Answer::Text(_) | Answer::Slip(_) => (print_told(out, told), DONE),
+        Answer::Refused(why) => (print_told(err, told), refusal_status(why)),
     };
     match printed {
         Ok(()) => status,
@@ -166,7 +166,7 @@ fn print_usage<O: Print, E: Print>(
 {
     match complaint(alloc, words, fault) {
         Ok(text) => end_with(err, text.as_str(), USAGE),
-        Err(_error) => print(out, err, &Told::Refused(Refusal::Memory)),
+        Err(_error) => print(out, err, &Answer::Refused(Refusal::Memory)),
     }
 }
 
@@ -235,7 +235,7 @@ pub fn run_on<H: Host, O: Print, E: Print>(
             left: Remains::Nothing,
         },
         Err(LineFault::Memory) => Outcome {
-            status: print(out, err, &Told::Refused(Refusal::Memory)),
+            status: print(out, err, &Answer::Refused(Refusal::Memory)),
             left: Remains::Nothing,
         },
     }
@@ -251,7 +251,7 @@ pub fn print_awaiting<E: Write>(err: &mut E)
 
 /// Answers that there was no memory to read the words of the command line, and gives the status to end with.
 pub fn refuse_memory<W: Write>(writer: &mut W) -> u8
-    ensures { PutsText (told_text (Told.Refused Refusal.Memory)) MEMORY (stream (W.contents writer.old) (W.contents writer.new)) result }
+    ensures { PutsText (told_text (Answer.Refused Refusal.Memory)) MEMORY (stream (W.contents writer.old) (W.contents writer.new)) result }
 {
     match print_fault(writer, InputFault::Memory) {
         Ok(status) => status,

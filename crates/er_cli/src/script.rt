@@ -15,7 +15,7 @@ ghost use Rattle.er_cli.specs.inside.Desk.{HasOwnTables, desk_state_of};
 use crate::action::{Action, Task, file_and_action};
 use crate::setup::set_up;
 use crate::texts::{LineAnswer, Print, WriteFault, print_answer};
-use er_answers::{Question, Told, ask, reply_told};
+use er_answers::{Answer, Question, ask, reply_told};
 use er_desk::{Desk, Reply};
 use er_event::{Name, Receipt, Refusal};
 use er_words::{LineFault, read_line};
@@ -68,7 +68,7 @@ impl Runner {
         ensures written { HasOwnTables self.new.desk }
     {
         match &mut self.desk {
-            None => LineAnswer::Asked(Told::Refused(Refusal::NoEvent)),
+            None => LineAnswer::Asked(Answer::Refused(Refusal::NoEvent)),
             Some(desk) => LineAnswer::Asked(ask(self.alloc, desk, question)),
         }
     }
@@ -113,7 +113,7 @@ impl Runner {
                 self.run_action(action)
             }
             Err(LineFault::Usage(_fault)) => LineAnswer::Usage,
-            Err(LineFault::Memory) => LineAnswer::Asked(Told::Refused(Refusal::Memory)),
+            Err(LineFault::Memory) => LineAnswer::Asked(Answer::Refused(Refusal::Memory)),
         }
     }
 }

@@ -10,7 +10,7 @@ ghost use Rattle.er_cli.specs.inside.Sessions.{AsksAndCloses};
 
 use crate::closing::{close, into_store};
 use crate::remains::Remains;
-use er_answers::{Question, Told, ask};
+use er_answers::{Answer, Question, ask};
 use er_desk::laws::{next_sessions, sessions_join};
 use er_desk::{Desk, adopt_file};
 use er_event::Refusal;
@@ -24,7 +24,7 @@ use std::alloc::{AllocError, Global};
 /// may open. Or they can't be opened, or closed, and what is left of them comes back.
 #[derive(Drop)]
 pub struct SessionEnd<D: Disk + Drop> {
-    pub answers: Result<Vec<Told>, Refusal>,
+    pub answers: Result<Vec<Answer>, Refusal>,
     pub files: Result<Files<D>, Remains<D>>,
 }
 
@@ -57,7 +57,7 @@ fn ask_all<S: Alter>(
     alloc: Global,
     desk: &mut Desk<S>,
     questions: Vec<Question>,
-) -> Result<Vec<Told>, AllocError>
+) -> Result<Vec<Answer>, AllocError>
     ensures { MatchResult result
         (λ answers. AsksAll S.Store desk.old questions.items answers.items desk.new)
         (λ _. desk.new ≡ desk.old) }
@@ -77,7 +77,7 @@ fn ask_and_close<S: Alter>(
     alloc: Global,
     mut desk: Desk<S>,
     questions: Vec<Question>,
-) -> (Result<Vec<Told>, AllocError>, bool, Connection<S>)
+) -> (Result<Vec<Answer>, AllocError>, bool, Connection<S>)
     ensures { AsksAndCloses S.Store desk questions.items result }
 {
     let answers = ask_all(alloc, &mut desk, questions);
@@ -163,7 +163,7 @@ fn crash<D: Crash + Drop>(files: Files<D>) -> Files<D>
 /// close them, what is left of them.
 #[derive(Drop)]
 pub struct Sessions<D: Disk + Drop> {
-    pub answers: Vec<Result<Vec<Told>, Refusal>>,
+    pub answers: Vec<Result<Vec<Answer>, Refusal>>,
     pub files: Result<Files<D>, Remains<D>>,
 }
 

@@ -1,9 +1,9 @@
 ghost use Rattle.std.specs.Prelude.{◌≡◌, ℕ, List, Option, OnOk, OnErr};
 ghost use Rattle.std.specs.Io.KnownBytes.{Appends, Keeps};
-ghost use Rattle.er_answers.specs.declared.question.Told.TheVariants.{Accepted, Refused};
+ghost use Rattle.er_answers.specs.declared.question.Answer.TheVariants.{Accepted, Refused};
 ghost use Rattle.er_cli.specs.Texts.{answer_text, told_text, AppendsPart};
 
-use er_answers::Told;
+use er_answers::Answer;
 use er_event::Refusal;
 use er_paper::ShortText;
 use std::io::Write;
@@ -12,7 +12,7 @@ use std::io::Write;
 #[derive(Drop)]
 pub enum LineAnswer {
     /// What its desk answers, or that it has none.
-    Asked(Told),
+    Asked(Answer),
     /// It isn't a line of a script.
     Usage,
 }
@@ -94,16 +94,16 @@ fn refusal_line(refusal: &Refusal) -> ShortText
 }
 
 /// Prints what the desk has answered, by one write if the writer takes it whole. It takes no memory.
-pub fn print_told<W: Print>(writer: &mut W, told: &Told) -> Result<(), WriteFault>
+pub fn print_told<W: Print>(writer: &mut W, told: &Answer) -> Result<(), WriteFault>
     ensures sent { OnOk result (Appends (W.printed writer.old) (W.printed writer.new)
         (told_text told.now)) }
     ensures part { OnErr result (AppendsPart (W.printed writer.old) (W.printed writer.new)
         (told_text told.now)) }
 {
     match told {
-        Told::Accepted(receipt) => writer.print(ok_line(receipt.serial).as_slice()),
-        Told::Text(text) | Told::Slip(text) => writer.print(text.as_slice()),
-        Told::Refused(refusal) => writer.print(refusal_line(refusal).as_slice()),
+        Answer::Accepted(receipt) => writer.print(ok_line(receipt.serial).as_slice()),
+        Answer::Text(text) | Answer::Slip(text) => writer.print(text.as_slice()),
+        Answer::Refused(refusal) => writer.print(refusal_line(refusal).as_slice()),
     }
 }
 

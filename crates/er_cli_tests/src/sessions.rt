@@ -3,7 +3,7 @@ ghost use Rattle.std.specs.Prelude.{◌≡◌, IsTrue, IfSome};
 ghost use Rattle.sqlite_disk.specs.Memory.{memory_is_usable};
 ghost use Rattle.sqlite_disk.specs.Fuse.{inner_of, IsFresh};
 
-use er_cli::{Action, Question, Task, Told, file_and_action, hold_sessions};
+use er_cli::{Action, Answer, Question, Task, file_and_action, hold_sessions};
 use er_desk::{adopt_file, into_connection};
 use er_event::Refusal;
 use er_testing::desks::old_desk;
@@ -88,9 +88,9 @@ fn held_in(alloc: Global, files: &Disks) -> Option<(u32, u8)> {
 }
 
 /// Whether a session showed something at its end.
-fn shows_last(answers: &Result<Vec<Told>, Refusal>) -> bool {
+fn shows_last(answers: &Result<Vec<Answer>, Refusal>) -> bool {
     match answers {
-        Ok(answers) => matches!(answers.as_slice(), [.., Told::Text(_)]),
+        Ok(answers) => matches!(answers.as_slice(), [.., Answer::Text(_)]),
         Err(_why) => false,
     }
 }

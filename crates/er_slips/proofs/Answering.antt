@@ -15,7 +15,7 @@ use Rattle.er_desk.specs.Asking as desk
 use Rattle.er_desk.specs.Desk.{DeskState, desk_state, point_of}
 use Rattle.er_desk.specs.{Reply.{Reply, IsDue, IsLawfulReply}, Run.{Session, no_session}}
 use Rattle.er_answers.specs.{Answers.{AsksFor, session_at}, Due.{IsAnswerAt, IsDueAt, OrFault}, Question.reply_told}
-use Rattle.er_answers.specs.declared.question.{Told.Told, Told.TheVariants.{Accepted, Text, Slip as SlipText, Refused as Declined}}
+use Rattle.er_answers.specs.declared.question.{Answer.Answer, Answer.TheVariants.{Accepted, Text, Slip as SlipText, Refused as Declined}}
 use Rattle.er_slips.specs.declared.request.wanted.Request.{Request}
 use Rattle.er_slips.specs.{declared.request.wanted.Request.TheVariants.{Standings, Pairings, Slip, Report}}
 use Rattle.er_slips.specs.{declared.request.wanted.Fault.Fault}
@@ -32,7 +32,7 @@ use Rattle.er_slips.specs.Whole.{IsAnswered, submitted_command, IsAnswerUnless50
 use Rattle.er_slips.specs.Serving.{AnswersRequest, IsServed, IsUnserved, Writes, EndsServing, IsWritten}
 
 -- a request moves no tables: it asks its session of the file
-pub asks_session : {S : Type 0} (g : Ghosts S) (old : Desk S g) (asked : Request) (told : Told) (new : Desk S g)
+pub asks_session : {S : Type 0} (g : Ghosts S) (old : Desk S g) (asked : Request) (told : Answer) (new : Desk S g)
     → AsksFor g old (question_of asked) told new
     → desk.Asks g old (session_at (question_of asked) told (desk_state new).needs_reopen) new
 asks_session g old Standings told new it = it
@@ -135,7 +135,7 @@ module _ (old : DeskState) (session : Session) (new : DeskState) (input : List �
     faulty why fault same = (let request = whole asked of in inr (why, fault, same, request.0, request.1))
 
     -- what is due, or no memory for its message
-    due_told : (told : Told) → IsDueAt 2 (point_of old) (question_of asked) told → IsResponse told answer
+    due_told : (told : Answer) → IsDueAt 2 (point_of old) (question_of asked) told → IsResponse told answer
         → IsAnswerUnless503 old.event old.serial input answer
     due_told (Accepted receipt) due is = exact (Ok asked) of (Accepted receipt, due, is)
     due_told (Text text) due (inl is) = exact (Ok asked) of (Text text, due, is)
@@ -144,11 +144,11 @@ module _ (old : DeskState) (session : Session) (new : DeskState) (input : List �
     due_told (SlipText slip) due (inr full) = faulty Memory (inl refl) full
     due_told (Declined why) due is = exact (Ok asked) of (Declined why, due, is)
 
-    fault_told : (told : Told) (why : Refusal) → IsFault why → told ≡ Declined why → IsResponse told answer
+    fault_told : (told : Answer) (why : Refusal) → IsFault why → told ≡ Declined why → IsResponse told answer
         → IsAnswerUnless503 old.event old.serial input answer
-    fault_told told why fault is message = faulty why fault (subst (λ (t : Told). IsResponse t answer) is message)
+    fault_told told why fault is message = faulty why fault (subst (λ (t : Answer). IsResponse t answer) is message)
 
-    told_or_fault : (told : Told) → OrFault (IsDueAt 2 (point_of old) (question_of asked) told) told → IsResponse told answer
+    told_or_fault : (told : Answer) → OrFault (IsDueAt 2 (point_of old) (question_of asked) told) told → IsResponse told answer
         → IsAnswerUnless503 old.event old.serial input answer
     told_or_fault told (inl due) message = due_told told due message
     told_or_fault told (inr (why, fault, is)) message = fault_told told why fault is message
@@ -160,7 +160,7 @@ module _ (old : DeskState) (session : Session) (new : DeskState) (input : List �
     in_time reply (Ok next, taken, same) = (Ok next, taken, same)
     in_time reply (Err why, refused, same) = (Err why, refused, same)
 
-    reply_by : (told : Told) (reply : Reply) → IsLawfulReply old.version old.event old.serial (ReportResult round table score) reply
+    reply_by : (told : Answer) (reply : Reply) → IsLawfulReply old.version old.event old.serial (ReportResult round table score) reply
         → told ≡ reply_told reply → IsResponse told answer → IsAnswerUnless503 old.event old.serial input answer
     reply_by told reply (inl due) is message =
         due_told (Report round table score) of told (reply, in_time reply due, is) message
@@ -169,7 +169,7 @@ module _ (old : DeskState) (session : Session) (new : DeskState) (input : List �
     reply_by told reply (inr (inr (due, why, fault, failed))) is message =
         fault_told (Report round table score) of told why fault (is ∙ ap reply_told failed) message
 
-  answered_at : (asked : Request) → IsRequest input (Ok asked) → (told : Told)
+  answered_at : (asked : Request) → IsRequest input (Ok asked) → (told : Answer)
       → IsAnswerAt old.version (point_of old) (question_of asked) told → IsResponse told answer
       → IsAnswerUnless503 old.event old.serial input answer
   answered_at Standings of told it message = told_or_fault Standings of told it message

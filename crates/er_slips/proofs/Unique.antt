@@ -13,7 +13,7 @@ use Rattle.er_paper.specs.Texts.{rows_text}
 use Rattle.er_desk.specs.Reply.{Reply, IsDue, reply_to}
 use Rattle.er_slips.specs.declared.request.wanted.Request.TheVariants.{Standings, Pairings, Slip, Report}
 use Rattle.er_rank.specs.declared.rows.Row.{Row}
-use Rattle.er_answers.specs.{Due.IsDueAt, Question.reply_told, declared.question.{Told.Told, Told.TheVariants.Text}}
+use Rattle.er_answers.specs.{Due.IsDueAt, Question.reply_told, declared.question.{Answer.Answer, Answer.TheVariants.Text}}
 use Rattle.er_slips.specs.{Response.{ResponseValue, response_to}, Whole.{IsAnswered, OneAnswer, question_of, submitted_command}}
 
 pub one_asked : (input : List ℕ) (r q : Result Request Fault) → IsRequest input r → IsRequest input q → r ≡ q
@@ -40,7 +40,7 @@ module _ (standings : HasOneStandings) (step : OneStep) (event : EventValue) (se
   one_reply round table score r q (result, inr (over, needs), due) (other, answers, same) = absurd needs
   one_reply round table score r q (result, inl (steps, few), due) (other, inr (over, needs), same) = absurd needs
 
-  one_told : (asked : Request) (a b : Told) → IsDueAt 2 (record { event = event; serial = serial }) (question_of asked) a
+  one_told : (asked : Request) (a b : Answer) → IsDueAt 2 (record { event = event; serial = serial }) (question_of asked) a
       → IsDueAt 2 (record { event = event; serial = serial }) (question_of asked) b → a ≡ b
   one_told Standings a b (rows, are, is) (other, also, it) =
       is ∙ ap (λ (list : List Row). Text (rows_text event list)) (sym (standings event rows sound are.0 other also.0)) ∙ sym it

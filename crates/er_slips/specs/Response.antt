@@ -5,8 +5,8 @@ use Rattle.er_event.specs.declared.refusals.Refusal.{Refusal}
 use Rattle.er_event.specs.declared.refusals.Refusal.TheVariants.{AlreadyReported, NoSuchMatch, Memory, Store, NeedsReopen}
 use Rattle.er_event.specs.declared.scores.Games.{Games}
 use Rattle.er_event.specs.Refusal.{entry_of}
-use Rattle.er_answers.specs.declared.question.Told.{Told}
-use Rattle.er_answers.specs.declared.question.Told.TheVariants.{Accepted, Text, Slip, Refused}
+use Rattle.er_answers.specs.declared.question.Answer.{Answer}
+use Rattle.er_answers.specs.declared.question.Answer.TheVariants.{Accepted, Text, Slip, Refused}
 use Rattle.er_slips.specs.declared.response.Response.{Response}
 use Rattle.er_slips.specs.declared.response.Response.TheVariants.{Short, Long}
 use Rattle.er_slips.specs.declared.request.wanted.Methods.{Methods}
@@ -107,14 +107,14 @@ abbrev pub slip_response : List ℕ → ResponseValue
 slip_response slip = json_response 200 slip
 
 -- what the desk has answered, as a response
-abbrev pub response_to : Told → ResponseValue
+abbrev pub response_to : Answer → ResponseValue
 response_to (Accepted receipt) = receipt_response receipt.serial
 response_to (Text text) = text_response text
 response_to (Slip slip) = slip_response slip
 response_to (Refused why) = refusal_response why
 
 -- this response, or that there is no memory for one of any length
-abbrev pub IsResponse : Told → ResponseValue → Type 0
+abbrev pub IsResponse : Answer → ResponseValue → Type 0
 IsResponse (Text text) answer = (answer ≡ text_response text) ⊎ (answer ≡ refusal_response Memory)
 IsResponse (Slip slip) answer = (answer ≡ slip_response slip) ⊎ (answer ≡ refusal_response Memory)
 IsResponse told answer = answer ≡ response_to told

@@ -9,7 +9,7 @@ use Rattle.er_desk.specs.Asking as desk
 use Rattle.er_desk.specs.Desk.{DeskState, HoldsOwnEvent, desk_state, state}
 use Rattle.er_desk.specs.Run.{Session, no_session}
 use Rattle.er_answers.specs.Answers.{AnswersDesk, session_at}
-use Rattle.er_answers.specs.declared.question.Told.{Told}
+use Rattle.er_answers.specs.declared.question.Answer.{Answer}
 use Rattle.er_slips.specs.declared.request.wanted.Request.{Request}
 use Rattle.er_slips.specs.declared.request.wanted.Fault.{Fault}
 use Rattle.er_slips.specs.declared.serve.Served.{Served}
@@ -26,7 +26,7 @@ use Rattle.er_slips.specs.Whole.{IsAnswerUnless503, question_of}
 abbrev pub AnswersRequest : Type 0 → DeskState → Result Request Fault → ResponseValue → Session → DeskState → Type 0
 AnswersRequest Represented old (Err fault) answer session new = (answer ≡ fault_response fault) × (session ≡ no_session) × (new ≡ old)
 AnswersRequest Represented old (Ok request) answer session new =
-    (told : Told) × AnswersDesk Represented old (question_of request) told new × IsResponse told answer
+    (told : Answer) × AnswersDesk Represented old (question_of request) told new × IsResponse told answer
     × (session ≡ session_at (question_of request) told new.needs_reopen)
 
 -- a desk is asked this, answers so, and its file takes the session

@@ -10,7 +10,7 @@ use Rattle.er_answers.specs.Due.{IsDueAt}
 use Rattle.er_answers.specs.declared.question.Question.{Question}
 use Rattle.er_answers.specs.declared.question.Question.TheVariants as question
 use Rattle.er_answers.specs.declared.question.View.TheVariants as view
-use Rattle.er_answers.specs.declared.question.Told.{Told}
+use Rattle.er_answers.specs.declared.question.Answer.{Answer}
 use Rattle.er_slips.specs.declared.request.wanted.Request.{Request}
 use Rattle.er_slips.specs.declared.request.wanted.Request.TheVariants.{Standings, Pairings, Slip, Report}
 use Rattle.er_slips.specs.declared.request.wanted.Fault.{Fault}
@@ -30,7 +30,7 @@ question_of (Report round table score) = question.Submit (ReportResult round tab
 abbrev pub IsAnswered : EventValue → ℕ → Result Request Fault → ResponseValue → Type 0
 IsAnswered event serial (Err fault) answer = answer ≡ fault_response fault
 IsAnswered event serial (Ok request) answer =
-    (told : Told) × IsDueAt 2 (record { event = event; serial = serial }) (question_of request) told × (answer ≡ response_to told)
+    (told : Answer) × IsDueAt 2 (record { event = event; serial = serial }) (question_of request) told × (answer ≡ response_to told)
 
 -- a command is submitted, and nothing else is
 abbrev pub command_of : Question → Option Command

@@ -9,7 +9,7 @@ use crate::response::{
     Response, fault_response, receipt_response, refusal_response, slip_response, text_response,
 };
 use crate::serve::sending::{Sent, send};
-use er_answers::{Question, Told, ask};
+use er_answers::{Answer, Question, ask};
 use er_desk::Desk;
 use er_event::Refusal;
 use sqlite::Alter;
@@ -38,14 +38,14 @@ fn response_or_memory(answer: Result<Response, AllocError>) -> Response
 }
 
 /// Returns the response that tells what the desk has answered.
-fn response(alloc: Global, told: &Told) -> Response
+fn response(alloc: Global, told: &Answer) -> Response
     ensures { IsResponse told.now (response_value result) }
 {
     match told {
-        Told::Accepted(receipt) => receipt_response(*receipt),
-        Told::Text(text) => response_or_memory(text_response(alloc, text.as_slice())),
-        Told::Slip(slip) => response_or_memory(slip_response(alloc, slip.as_slice())),
-        Told::Refused(why) => refusal_response(why),
+        Answer::Accepted(receipt) => receipt_response(*receipt),
+        Answer::Text(text) => response_or_memory(text_response(alloc, text.as_slice())),
+        Answer::Slip(slip) => response_or_memory(slip_response(alloc, slip.as_slice())),
+        Answer::Refused(why) => refusal_response(why),
     }
 }
 

@@ -5,7 +5,7 @@ use Rattle.er_event.specs.declared.refusals.Refusal.TheVariants.{Memory}
 use Rattle.er_desk.specs.Desk.{DeskState}
 use Rattle.er_desk.specs.Run.{Session}
 use Rattle.er_paper.specs.declared.imports.PlayerLine.{PlayerLine}
-use Rattle.er_answers.specs.declared.question.Told.TheVariants.{Refused}
+use Rattle.er_answers.specs.declared.question.Answer.TheVariants.{Refused}
 use Rattle.er_cli.specs.declared.importing.Additions.{Additions}
 use Rattle.er_cli.specs.Help.{Printed, Tells}
 use Rattle.er_cli.specs.Importing.{EnrolsNobody, TakesList}

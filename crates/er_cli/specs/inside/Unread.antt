@@ -6,7 +6,7 @@ use Rattle.er_cli.specs.declared.TheConstants.{USAGE, DEVICE, MEMORY}
 use Rattle.er_cli.specs.declared.input.InputFault.{InputFault}
 use Rattle.er_cli.specs.declared.input.InputFault.TheVariants as fault
 use Rattle.er_cli.specs.declared.input.InputFault.TheVariants.{TooLong, Read}
-use Rattle.er_answers.specs.declared.question.Told.TheVariants.{Refused}
+use Rattle.er_answers.specs.declared.question.Answer.TheVariants.{Refused}
 use Rattle.er_cli.specs.declared.texts.LineAnswer.TheVariants.{Usage}
 use Rattle.er_cli.specs.Texts.{answer_text, told_text, AppendsPart}
 

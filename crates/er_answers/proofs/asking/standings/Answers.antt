@@ -1,6 +1,6 @@
 use Rattle.std.proofs.Common.{Err, refl}
 use Rattle.er_desk.specs.Desk.{desk_state}
-use Rattle.er_answers.specs.declared.question.Told.TheVariants.{Refused}
+use Rattle.er_answers.specs.declared.question.Answer.TheVariants.{Refused}
 use Rattle.er_answers.proofs.Asked.{ranked, ranked_rows}
 use Rattle.er_answers.proofs.asking.standings.Goals as goal
 

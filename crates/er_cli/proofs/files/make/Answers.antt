@@ -1,5 +1,5 @@
 use Rattle.std.proofs.Common.{inl, refl}
-use Rattle.er_answers.specs.declared.question.Told.TheVariants.{Accepted, Refused}
+use Rattle.er_answers.specs.declared.question.Answer.TheVariants.{Accepted, Refused}
 use Rattle.er_desk.specs.Reply.{receipt}
 use Rattle.er_cli.proofs.{GoingOn.made_begins, Making.{made_so, makes_none}}
 use Rattle.er_cli.proofs.files.make.Goals as goal
