@@ -12,7 +12,7 @@ use Rattle.er_slips.specs.{Response.ResponseValue, Serving.{AnswersRequest, Ends
 use Rattle.er_slips.specs.{declared.request.wanted.Request.Request}
 use Rattle.er_slips.specs.{declared.request.wanted.Request.TheVariants.{Standings, Pairings, Slip, Report}}
 use Rattle.er_slips.specs.declared.request.wanted.Fault.{Fault}
-use Rattle.er_slips.specs.{declared.serve.Served.Served, declared.serve.Served.TheVariants.{Answered, ReadFault, WriteFault}}
+use Rattle.er_slips.specs.{declared.serve.ServeEnd.ServeEnd, declared.serve.ServeEnd.TheVariants.{Answered, ReadFault, WriteFault}}
 use Rattle.er_cli.specs.{declared.TheConstants.{DEVICE}, Serving.{Connects, ConnectsAll, ConnectsNext, SendsNext, PrintsServed}}
 use Rattle.er_slips.specs.Request.{IsRequest}
 use Rattle.er_desk.specs.Run.{no_session}
@@ -46,14 +46,14 @@ module _ (Represented : Type 0) (old : DeskState) (session : Session) (new : Des
   served_connects input answer (inl (asked, is, answers)) = asked_connects input asked answer is answers
   served_connects input answer (inr it) = inl (it.3, it.2)
 
-  pub ends_connecting : (input before after : Option (List ℕ)) (served : Served)
+  pub ends_connecting : (input before after : Option (List ℕ)) (served : ServeEnd)
       → EndsServing Represented input old session new before after served → Connects input old session new
   ends_connecting input before after ReadFault it = inl (it.2, it.1)
   ends_connecting input before after (Answered status) (answer, wrote, due) = served_connects input answer due
   ends_connecting input before after (WriteFault sent) (answer, wrote, due) = served_connects input answer due
 
 module _ {S : Type 0} (g : Ghosts S) (input : Option (List ℕ)) (old new : Desk S g) (before after : Option (List ℕ))
-    (served : Served) where
+    (served : ServeEnd) where
   pub serves_connecting : (it : Serves g input old new before after served) → Connects input (desk_state old) it.session (desk_state new)
   serves_connecting it = ends_connecting (HasCleanDisk (state g new) × HoldsOwnEvent g old) (desk_state old) it.session (desk_state new)
       input before after served it.ends

@@ -7,7 +7,7 @@ use Rattle.sqlite.specs.State.{HasCleanDisk}
 use Rattle.er_event.specs.declared.commands.Command.{Command}
 use Rattle.er_desk.specs.{declared.desk.Desk.Desk, Desk.{DeskState, HoldsOwnEvent, desk_state, state}, Run.{Session, no_session}}
 use Rattle.er_desk.specs.Asking.{Asks, AsksThen, join_sessions, later_in_doubt}
-use Rattle.er_slips.specs.{declared.serve.Served.Served, declared.serve.Served.TheVariants.{Answered, ReadFault, WriteFault}}
+use Rattle.er_slips.specs.{declared.serve.ServeEnd.ServeEnd, declared.serve.ServeEnd.TheVariants.{Answered, ReadFault, WriteFault}}
 use Rattle.er_slips.specs.{Response.ResponseValue, Serving.{AnswersRequest, EndsServing, IsServed, IsUnserved, Serves}}
 use Rattle.er_slips.specs.{declared.request.wanted.Request.Request, declared.request.wanted.Fault.Fault}
 use Rattle.er_cli.specs.Clients.{Got, GetEach, GetsLast, IsNextClient, KnewBefore, ServesKnown, ServesSome, tells}
@@ -28,7 +28,7 @@ module _ (Is Sure : Type 0) (old : DeskState) (gives : Sure → IsFalse old.need
   served_by input answer (inl (asked, is, answers)) = inl (asked, is, answers_by asked answer answers)
   served_by input answer (inr unserved) = inr unserved
 
-  ends_by : (input before after : Option (List ℕ)) (served : Served) → EndsServing Is input old session new before after served
+  ends_by : (input before after : Option (List ℕ)) (served : ServeEnd) → EndsServing Is input old session new before after served
       → EndsServing Sure input old session new before after served
   ends_by input before after ReadFault it = it
   ends_by input before after (Answered status) (answer, wrote, due) = (answer, wrote, served_by input answer due)
@@ -36,7 +36,7 @@ module _ (Is Sure : Type 0) (old : DeskState) (gives : Sure → IsFalse old.need
 
 -- ---- one client
 
-answered_whole : (r w : Bool) (served : Served) → tells r w served ≡ true → IsFalse (r || w) → (status : ℕ) × (served ≡ Answered status)
+answered_whole : (r w : Bool) (served : ServeEnd) → tells r w served ≡ true → IsFalse (r || w) → (status : ℕ) × (served ≡ Answered status)
 answered_whole r w (Answered status) told whole = (status, refl)
 answered_whole true w ReadFault told whole = absurd (true≢false whole)
 answered_whole false w ReadFault told whole = absurd (true≢false (sym told))
@@ -55,7 +55,7 @@ alone s = ap (λ (cs : List Command). let it : Session = record { acknowledged =
 
 module _ {S : Type 0} (g : Ghosts S) (old new : Desk S g) where
   -- the next client was served
-  serves_next : (inputs : List (List ℕ)) (before all : List Got) (reads wrote after : Option (List ℕ)) (was r w : Bool) (served : Served)
+  serves_next : (inputs : List (List ℕ)) (before all : List Got) (reads wrote after : Option (List ℕ)) (was r w : Bool) (served : ServeEnd)
       (coming then : Option (List (List ℕ))) → IsNextClient inputs reads wrote was coming
       → Serves g reads old new wrote after served
       → tells r w served ≡ true → then ≡ coming → GetsLast (Some before) after (r || w) (Some all)
@@ -92,7 +92,7 @@ module _ {S : Type 0} (g : Ghosts S) (old new : Desk S g) where
       }
 
   pub known_next : (a : Option (List (List ℕ))) (b : Option (List Got)) (reads wrote after : Option (List ℕ)) (was r w : Bool)
-      (served : Served)
+      (served : ServeEnd)
       (coming then : Option (List (List ℕ))) (got : Option (List Got)) → IfSome a (λ inputs. IsNextClient inputs reads wrote was coming)
       → Serves g reads old new wrote after served
       → tells r w served ≡ true → then ≡ coming → GetsLast b after (r || w) got → ServesKnown g 1 a b old then got new

@@ -6,8 +6,8 @@ use Rattle.er_desk.specs.declared.desk.Desk.{Desk}
 use Rattle.er_desk.specs.Asking.{Asks, join_sessions}
 use Rattle.er_desk.specs.Desk.{DeskState, HoldsOwnEvent, desk_state, state}
 use Rattle.er_desk.specs.Run.{Session, no_session}
-use Rattle.er_slips.specs.declared.serve.Served.{Served}
-use Rattle.er_slips.specs.declared.serve.Served.TheVariants.{Answered, ReadFault, WriteFault}
+use Rattle.er_slips.specs.declared.serve.ServeEnd.{ServeEnd}
+use Rattle.er_slips.specs.declared.serve.ServeEnd.TheVariants.{Answered, ReadFault, WriteFault}
 use Rattle.er_slips.specs.Serving.{EndsServing}
 
 -- what a client got, if that is known, and whether a call of its connection has failed
@@ -28,7 +28,7 @@ GetsLast None bytes failed (Some all) = ⊥
 GetsLast (Some gots) bytes failed (Some all) = all ≡ gots ++ record { bytes = bytes; failed = failed } ∷ []
 
 -- serving broke off only if a call of the one side or the other has failed
-abbrev pub tells : (read_failed write_failed : Bool) → Served → Bool
+abbrev pub tells : (read_failed write_failed : Bool) → ServeEnd → Bool
 tells read_failed write_failed (Answered status) = true
 tells read_failed write_failed ReadFault = read_failed
 tells read_failed write_failed (WriteFault sent) = write_failed
@@ -37,7 +37,7 @@ tells read_failed write_failed (WriteFault sent) = write_failed
 -- If no call of its connection has failed, it was answered.
 pub record IsServedTo (Represented : Type 0) (old : DeskState) (input : List ℕ) (got : Got) (session : Session) (new : DeskState)
     : Type 0 where
-  pub served : Served
+  pub served : ServeEnd
   pub ends : EndsServing Represented (Some input) old session new (Some []) got.bytes served
   pub answered : IsFalse got.failed → (status : ℕ) × (served ≡ Answered status)
 

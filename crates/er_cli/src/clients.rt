@@ -4,7 +4,7 @@ ghost use Rattle.std.specs.Io.KnownBytes.{ReadConsumes, WriteAppends, Keeps};
 ghost use Rattle.er_cli.specs.Clients.{Got, IsNextClient, GetsLast, tells};
 
 use crate::client::Client;
-use er_slips::Served;
+use er_slips::ServeEnd;
 use std::io::{self, Read, Write};
 use std::net::{TcpListener, TcpStream};
 use std::time::Instant;
@@ -111,13 +111,13 @@ impl<R: Read + Drop, W: Write + Drop> Visit<R, W> {
     }
 
     /// Whether its connection tells the same of how it was served: if that broke off, a call of it has failed.
-    pub fn tells(&self, served: Served) -> bool
+    pub fn tells(&self, served: ServeEnd) -> bool
         ensures { result ≡ tells self.now.reader.has_failed self.now.writer.has_failed served }
     {
         match served {
-            Served::Answered { .. } => true,
-            Served::ReadFault => self.reader.has_failed,
-            Served::WriteFault { .. } => self.writer.has_failed,
+            ServeEnd::Answered { .. } => true,
+            ServeEnd::ReadFault => self.reader.has_failed,
+            ServeEnd::WriteFault { .. } => self.writer.has_failed,
         }
     }
 }

@@ -23,7 +23,7 @@ use Rattle.er_slips.specs.{declared.request.wanted.NoRequest.NoRequest, declared
 use Rattle.er_slips.specs.declared.request.wanted.NoRequest.TheVariants as no_request
 use Rattle.er_slips.specs.{declared.request.Next.Next, declared.request.Next.TheVariants.{Get, Body}}
 use Rattle.er_slips.specs.declared.request.wanted.Fault.TheVariants.{BadRequest}
-use Rattle.er_slips.specs.{declared.serve.Served.Served, declared.serve.Served.TheVariants.{Answered, ReadFault, WriteFault}}
+use Rattle.er_slips.specs.{declared.serve.ServeEnd.ServeEnd, declared.serve.ServeEnd.TheVariants.{Answered, ReadFault, WriteFault}}
 use Rattle.er_slips.specs.{Request.{IsRequest, headed, headless, IsWholeRequest, next_of, asked_with, report_request}}
 use Rattle.er_slips.specs.{inside.Telling.TellsRequest}
 use Rattle.er_slips.specs.declared.response.Response.{Response}
@@ -52,7 +52,7 @@ made_is (Err error) answer due of is = inr is
 module _ (Represented : Type 0) (input : Option (List ℕ)) (old : DeskState) (session : Session) (new : DeskState)
     (before after : Option (List ℕ))
     (answer : ResponseValue) where
-  ends : (served : Served) → Writes before after served answer → IsServed Represented input old answer session new
+  ends : (served : ServeEnd) → Writes before after served answer → IsServed Represented input old answer session new
       ⊎ IsUnserved input old answer session new
       → EndsServing Represented input old session new before after served
   ends h1 wrote due = grind (arith, common_steps)
@@ -64,12 +64,12 @@ module _ (Represented : Type 0) (input : Option (List ℕ)) (old : DeskState) (s
       → IfSome i (λ xs. IsRequest xs (Err fault))
   asks-fault h1 fault told = grind (arith, common_steps)
 
-  pub ends-asked : (served : Served) (asked : Request) → IfSome input (λ xs. TellsRequest xs (Ok asked))
+  pub ends-asked : (served : ServeEnd) (asked : Request) → IfSome input (λ xs. TellsRequest xs (Ok asked))
       → AnswersRequest Represented old (Ok asked) answer session new
       → Writes before after served answer → EndsServing Represented input old session new before after served
   ends-asked served asked told answers wrote = ends served wrote (inl (Ok asked, asks input asked told, answers))
 
-  pub ends-refused : (served : Served) (why : NoRequest) (fault : Fault) → why ≡ Refused fault
+  pub ends-refused : (served : ServeEnd) (why : NoRequest) (fault : Fault) → why ≡ Refused fault
       → IfSome input (λ xs. TellsRequest xs (Err why))
       → answer ≡ fault_response fault → session ≡ no_session → new ≡ old
       → Writes before after served answer → EndsServing Represented input old session new before after served
@@ -85,7 +85,7 @@ keeps h1 = grind (arith, common_steps)
 
 pub ends-unserved : (Represented : Type 0) (input : Option (List ℕ)) (old : DeskState) (before after : Option (List ℕ))
     (answer : ResponseValue)
-    (served : Served) (why : NoRequest) → why ≡ no_request.Memory → IfSome input (λ xs. TellsRequest xs (Err why))
+    (served : ServeEnd) (why : NoRequest) → why ≡ no_request.Memory → IfSome input (λ xs. TellsRequest xs (Err why))
     → answer ≡ refusal_response Memory → Writes before after served answer
     → EndsServing Represented input old no_session old before after served
 ends-unserved Represented input old before after answer served why of told is wrote =
@@ -191,7 +191,7 @@ module _ (old : DeskState) (session : Session) (new : DeskState) (input : List �
   due-by Represented represented (inr unserved) = (let body = unserved.1 in inr (Memory, inl refl, unserved.0, _, body.3))
 
 pub written : (Represented : Type 0) (input : Option (List ℕ)) (old : DeskState) (session : Session) (new : DeskState)
-    (before after : Option (List ℕ)) (served : Served)
+    (before after : Option (List ℕ)) (served : ServeEnd)
     → EndsServing Represented input old session new before after served
     → IfSome input (λ xs. IsFalse old.needs_reopen → Represented → IsWritten old xs before after served)
 written Represented None old session new before after served e = tt

@@ -12,8 +12,8 @@ use Rattle.er_answers.specs.Answers.{AnswersDesk, session_at}
 use Rattle.er_answers.specs.declared.question.Answer.{Answer}
 use Rattle.er_slips.specs.declared.request.wanted.Request.{Request}
 use Rattle.er_slips.specs.declared.request.wanted.Fault.{Fault}
-use Rattle.er_slips.specs.declared.serve.Served.{Served}
-use Rattle.er_slips.specs.declared.serve.Served.TheVariants.{Answered, ReadFault, WriteFault}
+use Rattle.er_slips.specs.declared.serve.ServeEnd.{ServeEnd}
+use Rattle.er_slips.specs.declared.serve.ServeEnd.TheVariants.{Answered, ReadFault, WriteFault}
 use Rattle.er_slips.specs.declared.request.Next.TheVariants.{Body}
 use Rattle.er_slips.specs.Request.{IsRequest, IsWholeRequest}
 use Rattle.er_slips.specs.Response.{ResponseValue, IsResponse, fault_response, refusal_response}
@@ -51,14 +51,14 @@ IsUnserved input old answer session new =
     × (session ≡ no_session) × (new ≡ old)
 
 -- what was written of an answer
-abbrev pub Writes : Option (List ℕ) → Option (List ℕ) → Served → ResponseValue → Type 0
+abbrev pub Writes : Option (List ℕ) → Option (List ℕ) → ServeEnd → ResponseValue → Type 0
 Writes before after (Answered status) answer = (status ≡ answer.status) × Appends before after answer.bytes
 Writes before after (WriteFault sent) answer = (sent ≤ length answer.bytes) × Appends before after (take sent answer.bytes)
 Writes before after ReadFault answer = ⊥
 
 -- how serving an input ends: with an answer, of which all or the first bytes were written, or by a read that failed,
 -- with nothing submitted or written
-abbrev pub EndsServing : Type 0 → Option (List ℕ) → DeskState → Session → DeskState → (before after : Option (List ℕ)) → Served → Type 0
+abbrev pub EndsServing : Type 0 → Option (List ℕ) → DeskState → Session → DeskState → (before after : Option (List ℕ)) → ServeEnd → Type 0
 EndsServing Represented input old session new before after ReadFault = Keeps before after × (session ≡ no_session) × (new ≡ old)
 EndsServing Represented input old session new before after (Answered status) =
     (answer : ResponseValue) × Writes before after (Answered status) answer
@@ -69,7 +69,7 @@ EndsServing Represented input old session new before after (WriteFault sent) =
 
 -- What serving one request does: one score is the session, or nothing is.
 pub record Serves {S : Type 0} (g : Ghosts S) (input : Option (List ℕ)) (old new : Desk S g) (before after : Option (List ℕ))
-    (served : Served)
+    (served : ServeEnd)
     : Type 0 where
   pub session : Session
   pub ends : EndsServing (HasCleanDisk (state g new) × HoldsOwnEvent g old) input (desk_state old) session
@@ -77,7 +77,7 @@ pub record Serves {S : Type 0} (g : Ghosts S) (input : Option (List ℕ)) (old n
   pub asks : desk.Asks g old session new
 
 -- What was written of the answer to the input on the event and serial of a desk, or of a 503 that names why.
-abbrev pub IsWritten : DeskState → List ℕ → Option (List ℕ) → Option (List ℕ) → Served → Type 0
+abbrev pub IsWritten : DeskState → List ℕ → Option (List ℕ) → Option (List ℕ) → ServeEnd → Type 0
 IsWritten old input before after ReadFault = Keeps before after
 IsWritten old input before after (Answered status) =
     (answer : ResponseValue) × Writes before after (Answered status) answer
@@ -88,6 +88,6 @@ IsWritten old input before after (WriteFault sent) =
 
 -- Serving wrote just that if the desk ran and its tables represented its event.
 abbrev pub WritesDue : {S : Type 0} → Ghosts S → Type 0
-WritesDue {S} g = (old new : Desk S g) (input : List ℕ) (before after : Option (List ℕ)) (served : Served)
+WritesDue {S} g = (old new : Desk S g) (input : List ℕ) (before after : Option (List ℕ)) (served : ServeEnd)
     → Serves g (Some input) old new before after served → IsFalse (desk_state old).needs_reopen
     → HasCleanDisk (state g new) × HoldsOwnEvent g old → IsWritten (desk_state old) input before after served

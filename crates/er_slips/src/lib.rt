@@ -7,4 +7,4 @@ mod response;
 mod serve;
 
 pub use request::{MAX_BODY, MAX_FIELDS, MAX_HEAD, Routes};
-pub use serve::{Served, serve_one};
+pub use serve::{ServeEnd, serve_one};

@@ -8,7 +8,7 @@ use crate::request::{NoRequest, Request, Routes, read_request};
 use crate::response::{
     Response, fault_response, receipt_response, refusal_response, slip_response, text_response,
 };
-use crate::serve::sending::{Sent, send};
+use crate::serve::sending::{SendEnd, send};
 use er_answers::{Answer, Question, ask};
 use er_desk::Desk;
 use er_event::Refusal;
@@ -18,7 +18,7 @@ use std::io::{Read, Write};
 
 /// How serving one request ended.
 #[derive(Clone, Copy, Debug, PartialEq, Eq)]
-pub enum Served {
+pub enum ServeEnd {
     Answered { status: u16 },
     /// A read failed. Nothing was submitted or written.
     ReadFault,
@@ -59,15 +59,15 @@ fn answer<S: Alter>(alloc: Global, desk: &mut Desk<S>, asked: Request) -> Respon
 }
 
 /// Sends a whole answer.
-fn deliver<W: Write>(writer: &mut W, answer: &Response) -> Served
+fn deliver<W: Write>(writer: &mut W, answer: &Response) -> ServeEnd
     ensures { Writes (W.contents writer.old) (W.contents writer.new) result
         (response_value answer.now) }
 {
     match send(writer, answer.as_slice()) {
-        Sent::All => Served::Answered {
+        SendEnd::All => ServeEnd::Answered {
             status: answer.status(),
         },
-        Sent::Fault(sent) => Served::WriteFault { sent },
+        SendEnd::Fault(sent) => ServeEnd::WriteFault { sent },
     }
 }
 
@@ -78,7 +78,7 @@ pub fn serve_one<S: Alter, R: Read, W: Write>(
     desk: &mut Desk<S>,
     reader: &mut R,
     writer: &mut W,
-) -> Served
+) -> ServeEnd
     // One score is handed to the desk, or nothing is, and the file takes just that.
     ensures serves { Serves S.Store (R.remaining reader.old) desk.old desk.new
         (W.contents writer.old) (W.contents writer.new) result }
@@ -89,6 +89,6 @@ pub fn serve_one<S: Alter, R: Read, W: Write>(
         Ok(asked) => deliver(writer, &answer(alloc, desk, asked)),
         Err(NoRequest::Refused(fault)) => deliver(writer, &fault_response(fault)),
         Err(NoRequest::Memory) => deliver(writer, &refusal_response(&Refusal::Memory)),
-        Err(NoRequest::Unread) => Served::ReadFault,
+        Err(NoRequest::Unread) => ServeEnd::ReadFault,
     }
 }

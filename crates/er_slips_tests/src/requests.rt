@@ -2,7 +2,7 @@
 //! which `|` stands for CR LF.
 
 use er_desk::Desk;
-use er_slips::{Routes, Served, serve_one};
+use er_slips::{Routes, ServeEnd, serve_one};
 use er_testing::desks::{FOUR, THREE, desk_after};
 use er_testing::wires::{Break, Endless, Sink, Source};
 use sqlite::{Alter, MemStore};
@@ -164,7 +164,7 @@ fn serve<S: Alter, R: Read, W: Write>(
     desk: &mut Desk<S>,
     reader: &mut R,
     writer: &mut W,
-) -> Option<Served> {
+) -> Option<ServeEnd> {
     let routes = Routes::new(alloc).ok()?;
     Some(serve_one(alloc, &routes, desk, reader, writer))
 }
@@ -178,7 +178,7 @@ fn has_answer<S: Alter>(
 ) -> bool {
     let mut written = Vec::new(alloc);
     let served = serve(alloc, desk, &mut request, &mut written);
-    let status = status(answer).map(|status| Served::Answered { status });
+    let status = status(answer).map(|status| ServeEnd::Answered { status });
     served.is_some()
         && served == status
         && written.as_slice() == answer.as_bytes()
@@ -390,7 +390,7 @@ fn a_score_is_taken_once(rt: HostRuntime) -> Result<(), Fail> {
 }
 
 /// How serving an input without an end ends, and after how many calls.
-fn serve_endless(alloc: Global) -> Option<(Served, usize)> {
+fn serve_endless(alloc: Global) -> Option<(ServeEnd, usize)> {
     let mut desk = paired(alloc)?;
     let mut endless = Endless { calls: 0 };
     let served = serve(alloc, &mut desk, &mut endless, &mut Vec::new(alloc))?;
@@ -399,7 +399,7 @@ fn serve_endless(alloc: Global) -> Option<(Served, usize)> {
 
 #[test]
 fn an_input_without_an_end_is_refused(rt: HostRuntime) -> Result<(), Fail> {
-    let refused = Served::Answered { status: 400 };
+    let refused = ServeEnd::Answered { status: 400 };
     assert_eq!(rt; serve_endless(rt.alloc()), Some((refused, 8192)));
     Ok(())
 }
@@ -409,7 +409,7 @@ fn ends_at(alloc: Global, desk: &mut Desk<MemStore>, call: usize) -> bool {
     let mut source = Source::failing(POST.as_bytes(), call);
     let mut written = Vec::new(alloc);
     let served = serve(alloc, desk, &mut source, &mut written);
-    served == Some(Served::ReadFault) && written.is_empty() && source.calls == call
+    served == Some(ServeEnd::ReadFault) && written.is_empty() && source.calls == call
 }
 
 /// Whether each call in turn that fails leaves the serial at 6, and no call is made after the last byte.
@@ -440,7 +440,7 @@ fn is_cut(alloc: Global, desk: &mut Desk<MemStore>, room: usize, then: Break) ->
         then,
     };
     let served = serve(alloc, desk, &mut source, &mut sink);
-    served == Some(Served::WriteFault { sent: room })
+    served == Some(ServeEnd::WriteFault { sent: room })
         && Some(sink.taken.as_slice()) == TAKEN.as_bytes().get(..room)
 }
 
