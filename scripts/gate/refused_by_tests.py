@@ -16,7 +16,7 @@ import tempfile
 from scripts import TOP
 
 # the crates of tests
-TESTS, SLIPS_TESTS, CLI_TESTS = "er_desk_tests", "er_slips_tests", "er_cli_tests"
+TESTS, SLIPS_TESTS, CLI_TESTS, SESSIONS_TESTS = "er_desk_tests", "er_slips_tests", "er_cli_tests", "er_sessions_tests"
 WHOLE_EVENT, PAIRING = "stops::a_whole_event_survives_each_stop", "stops::a_pairing_survives_each_stop"
 ADOPTED = "desks::a_desk_answers_and_is_adopted"
 SERVED, GOES_ON = "sockets::clients_are_served", "sessions::sessions_go_on"
@@ -33,7 +33,7 @@ BODIES = {
     "er_desk/refused-by-tests/refuses_without_cause": (TESTS, [ADOPTED]),
     "er_slips/refused-by-tests/never_answers": (SLIPS_TESTS, [SCORE, SHORT]),
     "er_cli/refused-by-tests/waits_for_ever": (CLI_TESTS, [SERVED]),
-    "er_cli/refused-by-tests/never_copies_the_log": (CLI_TESTS, [GOES_ON]),
+    "er_cli/refused-by-tests/never_copies_the_log": (SESSIONS_TESTS, [GOES_ON]),
     "er_cli/refused-by-tests/run_twice": (CLI_TESTS, [LINES]),
     "er_cli/refused-by-tests/paths_are_absent": (CLI_TESTS, [LINES]),
     "er_cli/refused-by-tests/hangs_up": (CLI_TESTS, [SERVED]),

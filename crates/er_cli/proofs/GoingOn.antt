@@ -39,7 +39,7 @@ use Rattle.er_answers.specs.{Due.{IsAnswerAt, IsDueAt, OrFault}, Question.{IsRow
 use Rattle.er_answers.specs.declared.question.{Question.Question, Answer.Answer, Answer.TheVariants.{Accepted, Refused}}
 use Rattle.er_answers.specs.declared.question.Question.TheVariants.{Submit, Standings, Show, Slip as SlipOf, Migrate}
 use Rattle.er_cli.specs.declared.action.{Task.Task, Task.TheVariants.{Ask, Import, Serve}}
-use Rattle.er_cli.specs.GoingOn.{GoesOnBy, LeadsToVersion, MakesNoOther, MayMoveTables, StaysUnopened}
+use Rattle.er_cli.specs.GoingOn.{GoesOnBy, LeadsToVersion, MakesNoOther, MayMoveTables, MigrationsLead, StaysUnopened}
 use Rattle.er_cli.specs.Tasks.{AnswersQuestion, AnswersTask, DoesTask, Work, work_of}
 use Rattle.er_cli.specs.Tasks.Work.{Commands, Migration}
 use Rattle.er_cli.proofs.OnlySuch.{imports_only, serves_only}
@@ -169,10 +169,10 @@ pub record Goes {S : Type 0} (g : Ghosts S) (In : (was now : ℕ) → Type 0) (o
   pub crash : HoldsOwnEvent g old → AfterCrash (state g new)
       (λ trees. (v : ℕ) × In (version_in old) v × IsStoredEnd (placed_at (point_of (desk_state old)) v) session trees)
 
-abbrev pub Stays : (was now : ℕ) → Type 0
+abbrev Stays : (was now : ℕ) → Type 0
 Stays was now = now ≡ was
 
-pub goes_asking : {S : Type 0} (g : Ghosts S) (old : Desk S g) (session : Session) (new : Desk S g) → Asks g old session new
+goes_asking : {S : Type 0} (g : Ghosts S) (old : Desk S g) (session : Session) (new : Desk S g) → Asks g old session new
     → Goes g Stays old session new
 goes_asking g old session new it =
     let crash = it.crash in
@@ -188,33 +188,32 @@ still_second old new (Err why) (inr it) second = ap (λ (s : DeskState). s.versi
 pub ends_nowhere : (first : Placed) (trees : Trees) → IsStoredAt first trees → IsStoredEnd first no_session trees
 ends_nowhere first trees stored = (first.point, inl (record { event = refl; serial = omega arith; taken = tt }), stored)
 
+-- what a migration may leave
+pub migration_leads : {S : Type 0} (g : Ghosts S) → MigrationsLead g
+migration_leads g old new told it may shows clean trees left =
+    subst (λ (a : Answer). (v : ℕ) × LeadsToVersion Migrate a (version_in old) v
+    × IsStoredAt (placed_at (point_of (desk_state old)) v) trees) (sym it.tells) (by it.moved it.does)
+  where
+    by : (moved : Result ℕ Refusal) → MovesDesk g old moved new
+        → (v : ℕ) × LeadsToVersion Migrate (moved_told moved) (version_in old) v
+        × IsStoredAt (placed_at (point_of (desk_state old)) v) trees
+    by (Ok serial) does = (2, refl, does.acknowledged (may (does.clean clean)) shows clean trees left)
+    by (Err why) does = elim (does.crash (may (does.clean clean)) shows clean trees left) [
+      | inl before ↦ (version_in old, inl refl, before)
+      | inr moved ↦ (2, inr refl, moved)
+    ]
+
 -- what is moved may be moved, as the file shows that was opened
-pub goes_moving : {S : Type 0} (g : Ghosts S) (old : Desk S g) (told : Answer) (new : Desk S g) → MovesFile g old told new
+goes_moving : {S : Type 0} (g : Ghosts S) (old : Desk S g) (told : Answer) (new : Desk S g) → MovesFile g old told new
     → (HasCleanDisk (state g old) → MayMigrate g old)
     → Goes g (LeadsToVersion Migrate told) old no_session new
 goes_moving g old told new it may = record {
   clean = it.does.clean;
   sure = λ runs. refl;
   crash = λ shows clean trees left.
-      subst (λ (a : Answer). (v : ℕ) × LeadsToVersion Migrate a (version_in old) v
-      × IsStoredEnd (placed_at (point_of (desk_state old)) v) no_session trees) (sym it.tells)
-      (by it.moved it.does shows clean trees left);
+      let (version, within, stays) = migration_leads g old new told it may shows clean trees left in
+      (version, within, ends_nowhere (placed_at (point_of (desk_state old)) version) trees stays);
 }
-  where
-    by : (moved : Result ℕ Refusal) → MovesDesk g old moved new → HoldsOwnEvent g old → HasCleanDisk (state g new) → (trees : Trees)
-        → (state g new).may_leave trees
-        → (v : ℕ) × LeadsToVersion Migrate (moved_told moved) (version_in old) v
-        × IsStoredEnd (placed_at (point_of (desk_state old)) v) no_session trees
-    by (Ok serial) does shows clean trees left = (
-      2,
-      refl,
-      ends_nowhere (placed_at (point_of (desk_state old)) 2) trees
-          (does.acknowledged (may (does.clean clean)) shows clean trees left),
-    )
-    by (Err why) does shows clean trees left = elim (does.crash (may (does.clean clean)) shows clean trees left) [
-      | inl before ↦ (version_in old, inl refl, ends_nowhere (placed_of (desk_state old)) trees before)
-      | inr moved ↦ (2, inr refl, ends_nowhere (placed_at (point_of (desk_state old)) 2) trees moved)
-    ]
 
 -- over tables of version 2 they represent the event while the desk runs
 pub represents_second : {S : Type 0} (g : Ghosts S) (old new : Desk S g) (question : Question) (told : Answer)
@@ -235,13 +234,6 @@ stays_second g old new (Show view) told it second = it.as_call.version ∙ secon
 stays_second g old new (SlipOf round table) told it second = it.as_call.version ∙ second
 stays_second g old new Migrate told it second =
     still_second (desk_state old) (desk_state new) it.moved it.does.turn second
-
--- a desk that runs is at its point
-pub runs_at : (old : DeskState) (first : Placed) → IsFalse old.needs_reopen → placed_of old ≡ first
-    → old ≡ running_at first.point first.version
-runs_at old first runs is =
-    subst (λ (p : Placed). old ≡ running_at p.point p.version) is
-    (ap (λ (b : Bool). let it : DeskState = record old { needs_reopen = b } in it) runs)
 
 -- This desk opened the file: it found the point at which the history ends, and sees what the file holds.
 pub record IsFound {D : Type 0} (d : disk.Ghosts D) (image : Image) (first : Placed) (desk : Desk (FileStore D d) over_files) : Type 0 where
@@ -280,7 +272,7 @@ module _ (new : Point) (first : Placed) (ends : List Ended) (begins : IsBeginnin
   module _ {D : Type 0} (d : disk.Ghosts D) (In : (was now : ℕ) → Type 0) (desk last : Desk (FileStore D d) over_files) (session : Session)
       (found : HasCleanDisk (state over_files desk) → FindsAgain over_files desk first)
       (asked : Goes over_files In desk session last) where
-    pub leaves_next : AfterCrash (state over_files last) (BeginsIn (In first.version) new ends session)
+    leaves_next : AfterCrash (state over_files last) (BeginsIn (In first.version) new ends session)
     leaves_next clean trees may =
         let again = found (asked.clean clean) in
         let (version, within, ended) = asked.crash again.shows clean trees may in (

@@ -106,7 +106,7 @@ module _ {D : Type 0} {d : disk.Ghosts D} where
   was_put s (left.Unclosed store) keeps = tt
   was_put s (left.Unopened rest) none = absurd none
 
-  pub put_opened : (Spares : Error → Option (Leftover D d) → Type 0) (why : Refusal) (s : State) (what : Remains D d) → RemainsOf s what
+  put_opened : (Spares : Error → Option (Leftover D d) → Type 0) (why : Refusal) (s : State) (what : Remains D d) → RemainsOf s what
       → IfUnopened Spares why what
   put_opened Spares why s left.Nothing none = absurd none
   put_opened image why s (left.Closed files) closed = tt

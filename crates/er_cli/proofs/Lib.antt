@@ -12,8 +12,6 @@ mod GoingOn
 mod Leaving
 mod Outcomes
 mod Making
-mod Asked
-mod Holding
 mod Lengthening
 mod Helping
 mod Stopping

@@ -2,20 +2,27 @@
 -- whenever the program is stopped, and the next command line finds the longer one. What is told is the other half, which is in Tasks.
 use Rattle.std.specs.Prelude.{◌≡◌, ◌⊎◌, ℕ, List}
 use Rattle.sqlite_disk.specs.declared.Disk as disk
+use Rattle.sqlite_trees.specs.declared.store.Store.{Ghosts}
+use Rattle.sqlite_store.specs.declared.store.FileStore.{FileStore}
 use Rattle.sqlite_wal.specs.Recovery.{Image}
 use Rattle.sqlite.specs.Schema.{Schema}
 use Rattle.sqlite_catalog.specs.Listing.{IsSound}
 use Rattle.sqlite.specs.Tree.{Trees}
-use Rattle.sqlite.specs.Files.{HoldsDatabase}
+use Rattle.sqlite.specs.State.{HasCleanDisk}
+use Rattle.sqlite.specs.Files.{HoldsDatabase, over_files}
 use Rattle.er_event.specs.declared.refusals.Refusal.{Refusal}
 use Rattle.er_event.specs.declared.refusals.Refusal.TheVariants.{BadSetup, EventExists}
 use Rattle.er_store.specs.Fault.{IsFault}
 use Rattle.er_store.specs.Migrated.{NoneAwaitsPlayer2}
-use Rattle.er_store.specs.Representing.{RepresentsIn}
-use Rattle.er_desk.specs.Desk.{Point, Placed}
-use Rattle.er_desk.specs.Opening.{SparesAt}
+use Rattle.er_store.specs.Representing.{AfterCrash, RepresentsIn}
+use Rattle.er_desk.specs.declared.desk.Desk.{Desk}
+use Rattle.er_desk.specs.Desk.{Point, Placed, HoldsOwnEvent, IsStoredAt, desk_state, placed_at, point_of, state, version_in}
+use Rattle.er_desk.specs.Headline.{FindsAgain}
+use Rattle.er_desk.specs.Migrating.{MayMigrate}
+use Rattle.er_desk.specs.Opening.{HoldsStill, SparesAt}
 use Rattle.er_desk.specs.Run.{no_session}
 use Rattle.er_desk.specs.History.{Ended}
+use Rattle.er_answers.specs.Answers.{MovesFile}
 use Rattle.er_answers.specs.declared.question.Question.{Question}
 use Rattle.er_answers.specs.declared.question.Question.TheVariants.{Migrate}
 use Rattle.er_answers.specs.declared.question.Answer.{Answer}
@@ -39,6 +46,20 @@ pub record MayMoveTables (image : Image) (point : Point) : Type 0 where
   pub holds : HoldsDatabase image db
   pub unawaited : (schema : Schema) → IsSound schema db → RepresentsIn 1 (record { schema = schema; trees = db }) point.event point.serial
       → NoneAwaitsPlayer2 schema
+
+-- a desk that found an event in a file, and sees what the file holds, may move its tables if those of the file may be moved
+abbrev pub MigratesAsFound : {D : Type 0} → disk.Ghosts D → Type 0
+MigratesAsFound {D} d =
+    (image : Image) (first : Placed) (desk : Desk (FileStore D d) over_files) → HasCleanDisk (state over_files desk)
+    → FindsAgain over_files desk first → ((db : Trees) → HoldsDatabase image db → HoldsStill (state over_files desk) db)
+    → MayMoveTables image first.point → MayMigrate over_files desk
+
+-- a migration leaves the event at its point, in the version to which it leads
+abbrev pub MigrationsLead : {S : Type 0} → Ghosts S → Type 0
+MigrationsLead {S} g =
+    (old new : Desk S g) (told : Answer) → MovesFile g old told new → (HasCleanDisk (state g old) → MayMigrate g old)
+    → HoldsOwnEvent g old → AfterCrash (state g new)
+    (λ trees. (v : ℕ) × LeadsToVersion Migrate told (version_in old) v × IsStoredAt (placed_at (point_of (desk_state old)) v) trees)
 
 -- The file was opened, this was asked of its event, and it was closed, or could not be. A migration asks no command of it; of one this is
 -- said if the tables may be moved.

@@ -7,9 +7,8 @@
 -- Complaints what a person is told of words that aren't a line. Script and Input are a script and its lines, Status how it ends.
 --
 -- The second is what the file becomes, with no text. Remains is what is left of it, Files what a line does to a file that may hold
--- anything, GoingOn to one that a history left, and Next how the next line finds it. Words joins the halves. Sessions are many command
--- lines over the same two files, in one call, and Clients are those whom a listener serves. Stopped is what a stop at any instant has to
--- do with what a disk may leave at an exit.
+-- anything, GoingOn to one that a history left, and Next how the next line finds it. Words joins the halves. Clients are those whom a
+-- listener serves. Stopped is what a stop at any instant has to do with what a disk may leave at an exit.
 --
 -- What only private functions cite lies in `inside`.
 --
@@ -26,8 +25,7 @@
 --   `serve_clients`, `serve_all`, `serve_on`: a session of one score or none a client. If all were served, and it is known what clients
 --     send and get, each whose connection has not failed was answered on the event that those before it left.
 --   `run_script`: the answers to the lines in turn, to the byte, or a beginning of them. A script imports no list and serves no clients.
---   `hold_sessions`, `next_session`: many sessions over two files, with a crash after each. `laws::imports_again`, `stops_are_exits`,
---     `texts_are_asked`.
+--   `close`, by `RemainsOf`: what is left of a file. `laws::imports_again`, `stops_are_exits`, `texts_are_asked`, `migrations_go_on`.
 --
 -- Not promised: that a call succeeds; that no file was opened if none is given back; what is done to paths, lists and ports that the line
 -- doesn't name; how long a client may take; that `serve` listened before it says so.
@@ -35,8 +33,8 @@
 -- Wrong bodies that bear on the theorem: `asks_twice`, `unopened_is_absent`; of clients and lists `serves_nobody`, `reads_nobody`,
 -- `any_break_is_told`, `second_import_adds`; of what is left `never_closes`, `copies_after_a_fault`, `gives_back_what_was_not_copied`,
 -- `copies_before_commit`, `empties_after_the_answer`, `starts_after_the_answer`, `empties_a_refused_file`, `starts_and_wants_memory`,
--- `cuts_the_database`, `opens_the_empty_log`, `drops_what_is_left`, `drops_a_refused_file`, `session_skips_the_crash`. Only tests refuse
--- those in `refused-by-tests`.
+-- `cuts_the_database`, `opens_the_empty_log`, `drops_what_is_left`, `drops_a_refused_file`. Only tests refuse those in
+-- `refused-by-tests`.
 pub mod Setup
 pub mod Texts
 pub mod Input
@@ -56,6 +54,5 @@ pub mod Tasks
 pub mod Files
 pub mod GoingOn
 pub mod Words
-pub mod Sessions
 pub mod Stopped
 pub mod inside

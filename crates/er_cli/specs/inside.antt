@@ -7,4 +7,3 @@ pub mod Making
 pub mod Complaints
 pub mod Serving
 pub mod Importing
-pub mod Sessions

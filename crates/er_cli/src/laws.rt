@@ -2,11 +2,14 @@
 
 ghost use Rattle.std.specs.Prelude.{◌≡◌, ℕ, List, IsTrue, None, is_some};
 ghost use Rattle.er_words.specs.Line.{line_of};
+ghost use Rattle.sqlite.specs.Files.{over_files};
 ghost use Rattle.er_cli.specs.Again.{ImportsAgain};
+ghost use Rattle.er_cli.specs.GoingOn.{MigratesAsFound, MigrationsLead};
 ghost use Rattle.er_cli.specs.Help.{asks_text, text_for};
 ghost use Rattle.er_cli.specs.Stopped.{StopsAreExits};
 
 use er_rules::laws::names_stay;
+use sqlite_disk::Disk;
 
 /// A list that was imported adds nobody when it is imported once more. One whose import was stopped anywhere and is imported again gives
 /// the event of one import.
@@ -25,4 +28,11 @@ pub fn stops_are_exits()
 pub fn texts_are_asked()
     ensures exactly { (words : List (List ℕ)) → asks_text words ≡ is_some (text_for words) }
     ensures no_line { (words : List (List ℕ)) → IsTrue (asks_text words) → line_of words ≡ None }
+{}
+
+/// A desk may move its tables if the file that it opened allows that, and the event then stays at its point, in the version to which the
+/// migration leads.
+pub fn migrations_go_on<D: Disk + Drop>()
+    ensures may { MigratesAsFound D.Disk }
+    ensures lead { MigrationsLead (over_files {g = D.Disk}) }
 {}

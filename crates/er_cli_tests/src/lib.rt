@@ -11,6 +11,4 @@ mod hosts;
 #[cfg(test)]
 mod lines;
 #[cfg(test)]
-mod sessions;
-#[cfg(test)]
 mod sockets;

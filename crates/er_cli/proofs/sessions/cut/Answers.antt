@@ -1,6 +1,0 @@
-use Rattle.er_cli.proofs.Holding.{are_cut}
-use Rattle.er_cli.proofs.sessions.cut.Goals as goal
-
-pub returns : goal.returns
-returns g c clean = are_cut c.args.conn c.into_store-store.result c.close.result c.close.ensures c.into_store-store.ensures.quiet
-    c.into_store-store.ensures.numbered c.into_store-store.ensures.sound clean
