@@ -174,9 +174,11 @@ Stays was now = now ≡ was
 
 goes_asking : {S : Type 0} (g : Ghosts S) (old : Desk S g) (session : Session) (new : Desk S g) → Asks g old session new
     → Goes g Stays old session new
-goes_asking g old session new it =
-    let crash = it.crash in
-    record { clean = it.as_call.clean; sure = it.sure; crash = λ shows clean trees may. (version_in old, refl, crash shows clean trees may) }
+goes_asking g old session new it = record {
+  clean = it.as_call.clean;
+  sure = it.sure;
+  crash = λ shows clean trees may. (version_in old, refl, it.crash shows clean trees may);
+}
 
 -- tables of version 2 stay so
 still_second : (old new : DeskState) (moved : Result ℕ Refusal) → Migrates old moved new → old.version ≡ 2 → new.version ≡ 2

@@ -15,7 +15,7 @@ use Rattle.er_store.specs.Representing.{Either, IsStoredIn}
 use Rattle.er_store.specs.Beside.{IsStoredBeside}
 use Rattle.er_desk.specs.declared.desk.Desk.{Desk}
 use Rattle.er_desk.specs.Asking.{Asks}
-use Rattle.er_desk.specs.Desk.{Point, Placed, state}
+use Rattle.er_desk.specs.Desk.{Point, Placed}
 use Rattle.er_desk.specs.Files.{HasMade}
 use Rattle.er_desk.specs.Headline.{RecoversHistory}
 use Rattle.er_desk.specs.Opening.{HasAnEvent, NoneAwaitsIn, NamesFirstFault, SparesAt}
