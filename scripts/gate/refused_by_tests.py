@@ -2,7 +2,7 @@
 fails. With no wrong body the same tests pass in the gate. There a wrong body can't be built in, since only what is proved is built.
 
 Those of wrong-bodies are refused by the proof too, and here by the tests on stopped disks. Those of refused-by-tests meet every contract: a call may
-always answer out of memory, and a writer may always break, so that only tests refuse them.
+always answer out of memory, a database refuse a statement, and a writer break, so that only tests refuse them.
 """
 import argparse
 import concurrent.futures
@@ -19,6 +19,7 @@ from scripts import TOP
 TESTS, SLIPS_TESTS, CLI_TESTS, SESSIONS_TESTS = "er_desk_tests", "er_slips_tests", "er_cli_tests", "er_sessions_tests"
 WHOLE_EVENT, PAIRING = "stops::a_whole_event_survives_each_stop", "stops::a_pairing_survives_each_stop"
 ADOPTED = "desks::a_desk_answers_and_is_adopted"
+STAGES, TOTALS = "stores::stages_are_written", "stores::totals_are_kept"
 SERVED, GOES_ON = "sockets::clients_are_served", "sessions::sessions_go_on"
 LINES = "lines::each_line_is_one_command"
 ANSWERED, SCRIPT = "flushing::an_answer_is_flushed", "flushing::a_script_flushes"
@@ -28,6 +29,8 @@ BODIES = {
     "er_store/wrong-bodies/two_transactions": (SLIPS_TESTS, [WHOLE_EVENT]),
     "er_store/wrong-bodies/early_acknowledgement": (SLIPS_TESTS, [WHOLE_EVENT]),
     "er_store/wrong-bodies/repairs_on_open": (SLIPS_TESTS, [WHOLE_EVENT]),
+    "er_store/refused-by-tests/stage_in_the_place_of_the_last": (TESTS, [STAGES]),
+    "er_store/refused-by-tests/totals_of_a_player_put_in_again": (TESTS, [TOTALS]),
     "er_desk/wrong-bodies/memory_alone": (SLIPS_TESTS, [WHOLE_EVENT]),
     "er_desk/wrong-bodies/goes_on_after_fault": (SLIPS_TESTS, [PAIRING]),
     "er_desk/refused-by-tests/refuses_without_cause": (TESTS, [ADOPTED]),
