@@ -64,5 +64,5 @@ pub record GoesTo {D : Type 0} (d : disk.Ghosts D) (In : ℕ → Type 0) (new : 
     (what : Remains D d) : Type 0 where
   pub put_away : WasOpened what
   pub leaves : RecoversSession d In new ends session what
-  -- if a command is in doubt, a store that was not closed lists its tables by number
+  -- if a command is in doubt, the store was not closed, and lists its tables by number
   pub spared : (session.in_doubt ≡ None → ⊥) → ListsByNumber what

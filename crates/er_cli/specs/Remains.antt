@@ -79,12 +79,12 @@ module _ {D : Type 0} {d : disk.Ghosts D} where
   RemainsOf s (left.Unclosed store) = KeepsAll s store
   RemainsOf s (left.Unopened rest) = ⊥
 
-  -- a store that was not closed lists its tables by number
+  -- a store that was not closed, and lists its tables by number
   abbrev pub ListsByNumber : Remains D d → Type 0
   ListsByNumber (left.Unclosed store) = IsClean (view store) → IsTrue (view store).is_numbered
-  ListsByNumber what = Unit {0}
+  ListsByNumber what = ⊥
 
-  -- The desk's file was closed, or could not be. After a fault of the store its log isn't copied.
+  -- The desk's file was closed, or could not be. After a fault of the store it was not closed.
   pub record PutsAway (desk : Desk (FileStore D d) over_files) (what : Remains D d) : Type 0 where
     pub closes : RemainsOf (state over_files desk) what
     pub spared : IsTrue (desk_state desk).needs_reopen → ListsByNumber what
