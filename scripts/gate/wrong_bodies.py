@@ -9,8 +9,9 @@ judge, as a function that calls another one that is refused, is tried again with
 An answer of the function may merely no longer fit the changed body, and no goal of the contract stay open beside it. Such a wrong body is tried once
 more without the answers that don't fit, and if others don't fit then, without any. Beside it the function as it is in the source is tried without the
 same answers. The wrong body is refused if a clause stays open that is proved of the function as it is. If there is no such clause, it would be refused
-whatever its body does, so the wrong body is `unclear`. A line `unclear:` in the edit names a goal that the check left open, and where somebody who read
-it found it to be false; with `--strict` one without such a line fails the run. The invariants stay, since no loop is proved without them.
+whatever its body does, so the wrong body is `unclear`. A line `unclear:` in the edit names a goal that the check left open, and where somebody who
+read it found it to be false; with `--strict` one without such a line fails the run. The invariants stay, since no loop is proved without them; if one
+of them is refused, as one that names a local which has another name now, the wrong body is `unclear` too.
 
 The edits of crates/NAME/controls change nothing that a function means: a space more, a `match` in place of an `if`, another name for a local. None of
 them may be refused, or what this says of wrong bodies is worth nothing. One of each crate is tried each time, all if no turn is given.
@@ -118,6 +119,8 @@ class Said:
     goals: set = dataclasses.field(default_factory=set)
     # the answers of its functions that don't fit it, each by its file and its goal
     unfit: set = dataclasses.field(default_factory=set)
+    # whether an invariant of theirs was refused, as one that names a local by its old name: then nothing about the loop is proved, whatever it does
+    lost_loop: bool = False
 
 
 def module_of(file):
@@ -321,6 +324,11 @@ def lost_goals(output, function):
     return re.search(rf"^(?:\./)?{pattern_of(function)}/Answers\.antt:\d+:\d+: error: .*\.Goals` has no `", output, re.M)
 
 
+def has_lost_loop(body, output):
+    """Whether the check refused an invariant of a function that the wrong body changes."""
+    return any(re.search(rf"^(?:\./)?{pattern_of(it)}/Invariants\.antt:\d+:\d+: error: ", output, re.M) for it in body.functions)
+
+
 def open_goals(crate, texts, output):
     """The goals that stayed open, each after its function."""
     for file, line, goal in OPEN_GOAL.findall(output):
@@ -468,7 +476,9 @@ def tried(crate, bodies, kept, has_holes=True):
         said = {}
         for it in taken:
             of_its = {(function, goal) for function, goal in goals if function in it.functions}
-            said[it.name] = Said(verdict(crate, it, output, constants, open_in), of_its, unfit_in(crate, it, output))
+            lost_loop = has_lost_loop(it, output)
+            found = UNCLEAR if lost_loop else verdict(crate, it, output, constants, open_in)
+            said[it.name] = Said(found, of_its, unfit_in(crate, it, output), lost_loop)
     return said, output
 
 
@@ -590,7 +600,7 @@ def is_refused(said, as_they_are):
     all_of = {function for function, clause in there if not clause}
     some_of = {function for function, _clause in there}
     is_beyond = any(function not in (all_of if clause else some_of) and (function, clause) not in there for function, clause in here)
-    return is_beyond or not as_they_are and said.verdict == "refused"
+    return not said.lost_loop and (is_beyond or not as_they_are and said.verdict == "refused")
 
 
 def again_without(crate, lost, kept, shows, earlier):
