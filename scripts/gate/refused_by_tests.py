@@ -1,7 +1,7 @@
 """Puts each of a few wrong bodies into a copy of the crates, builds tests there with no proof, and asks that the test which sees such a body
 fails. With no wrong body the same tests pass in the gate. There a wrong body can't be built in, since only what is proved is built.
 
-Those of wrong-bodies are refused by the proof too, and here by the tests on stopped disks. Those of refused-by-tests meet every contract: a call may
+Those of wrong-bodies break a clause too, and are refused here by the tests on stopped disks. Those of refused-by-tests meet every contract: a call may
 always answer out of memory, a database refuse a statement, and a writer break, so that only tests refuse them.
 """
 import argparse
