@@ -7,10 +7,12 @@ import re
 import shutil
 import subprocess
 import time
+from dataclasses import replace
 from typing import Callable, NamedTuple, Optional, TypeVar, Union
 
 from companions.lists import (
     Bracket,
+    Matches,
     Players,
     Rounds,
     Standing,
@@ -176,6 +178,8 @@ class Kept:
         self.texts: dict[tuple[str, ...], tuple[Optional[Stamp], str]] = {}
         # all rounds but the newest
         self.older: tuple[Optional[Stamp], Rounds] = (None, [])
+        # the newest one
+        self.newest: tuple[Optional[Stamp], Matches] = (None, [])
         self.serial = -1
 
     def text(self, words: tuple[str, ...], stamp: Optional[Stamp]) -> Optional[str]:
@@ -186,21 +190,30 @@ class Kept:
         kept_at, older = self.older
         return older if stamp and stamp.is_exact and kept_at == stamp else None
 
+    def newest_round(self, stamp: Optional[Stamp]) -> Optional[Matches]:
+        kept_at, newest = self.newest
+        return newest if stamp and stamp.is_exact and kept_at == stamp else None
+
     def keep(self, words: tuple[str, ...], stamp: Optional[Stamp], text: str) -> None:
         self.texts[words] = stamp, text
 
     def forget(self, serial: int = -1) -> None:
         """A command was sent, whatever came of it."""
         self.texts.clear()
-        self.older, self.serial = (None, []), serial
+        self.older, self.newest, self.serial = (None, []), (None, []), serial
 
-    def carry(self, serial: int, before: Optional[Stamp], after: Optional[Stamp]) -> None:
-        """A result was taken. It changes no player and no older round, and where it is the next command after
+    def carry(
+        self, serial: int, before: Optional[Stamp], after: Optional[Stamp], number: int, table: int, score: Score
+    ) -> None:
+        """A result was taken. It changes no player and no other match, and where it is the next command after
         the one before, nobody else changed them.
         """
         is_next = serial == self.serial + 1
-        players, older = self.text(PLAYERS, before), self.older_rounds(before)
+        players, older, newest = self.text(PLAYERS, before), self.older_rounds(before), self.newest_round(before)
         self.forget(serial)
+        if is_next and newest is not None and older is not None and number == len(older) + 1:
+            scored = [replace(it, score=score) if it.place == table else it for it in newest]
+            self.newest = after, scored
         if is_next and players is not None:
             self.texts[PLAYERS] = after, players
         if is_next and older is not None:
@@ -305,7 +318,7 @@ class Source:
         except FAULTS:
             self.kept.forget()
             raise
-        self.kept.carry(serial_in(answer), before, self.stamp())
+        self.kept.carry(serial_in(answer), before, self.stamp(), number, int(table), score)
         return answer
 
     def players(self) -> Players:
@@ -316,9 +329,14 @@ class Source:
         stamp = self.stamp()
         older = self.kept.older_rounds(stamp)
         if older is not None and self.kept.text(RESULTS, stamp) is None:
-            return [*older, self.understood(pairings_of, self.read("slips", str(len(older) + 1)))]
+            newest = self.kept.newest_round(stamp)
+            if newest is None:
+                newest = self.understood(pairings_of, self.read("slips", str(len(older) + 1)))
+                self.kept.newest = stamp, newest
+            return [*older, newest]
         rounds = self.understood(rounds_of, self.read(*RESULTS))
         self.kept.older = (stamp, rounds[:-1]) if rounds else (None, [])
+        self.kept.newest = (stamp, rounds[-1]) if rounds else (None, [])
         return rounds
 
     def bracket(self) -> Bracket:
