@@ -6,8 +6,10 @@ differs, it takes its place.
 from __future__ import annotations
 
 import contextlib
+import math
 import os
 import shutil
+import subprocess
 import tempfile
 from dataclasses import dataclass, replace
 from typing import Callable, Iterator, Optional
@@ -18,6 +20,7 @@ from companions.event import Event, Phase, shown_player
 from companions.files import has_log
 from companions.keys import Keys
 from companions.lists import Bracket, Match, Matches, Players, Rounds
+from companions.phones.score_queue import LEAST_AT_ONCE, SECONDS_FOR_SERVE_TO_END, Waiting, hand_over
 from companions.plan import Plan, plan_of
 from companions.program import FAULTS, Declined, Refusal, Refused, Source
 from companions.rosters import written_list
@@ -114,6 +117,7 @@ class Replay:
         """Players come before results, and drops after them: whoever drops was there before."""
         self.enrol([player.name for number, player in players.items() if number not in self.players])
         for number, matches in enumerate(rounds, 1):
+            self.enter_new(number, matches)
             for match in matches:
                 self.enter(number, match)
         for number, player in players.items():
@@ -125,6 +129,29 @@ class Replay:
         if names:
             with written_list(names) as written:
                 self.made.ask("import", written)
+
+    def enter_new(self, number: int, matches: Matches) -> None:
+        """The first scores of a round, where they are many, by one run of `serve`: a command line opens the whole event for each.
+        What has no answer is sent by `enter`, which a score that was taken is not.
+        """
+        new = [it for it in matches if not it.is_bye and it.score and (number, it.place) not in self.scores]
+        if len(new) < LEAST_AT_ONCE:
+            return
+        words = [self.made.program, "serve", self.made.file, "0", str(len(new))]
+        with subprocess.Popen(
+            words, stdin=subprocess.DEVNULL, stdout=subprocess.PIPE, stderr=subprocess.DEVNULL, start_new_session=True
+        ) as serving:
+            try:
+                scores = [Waiting(number, it.place, it.score, None, math.inf) for it in new]
+                hand_over(serving, scores)
+                serving.wait(SECONDS_FOR_SERVE_TO_END)
+            except subprocess.TimeoutExpired:
+                pass
+            finally:
+                serving.kill()
+        for score in scores:
+            if score.answer and score.answer.is_taken:
+                self.scores[number, score.table] = score.score
 
     def enter(self, number: int, match: Match) -> None:
         known = self.scores.get((number, match.place))
