@@ -6,6 +6,7 @@ import os
 import re
 import shutil
 import subprocess
+import tempfile
 import time
 from dataclasses import replace
 from typing import Callable, NamedTuple, Optional, TypeVar, Union
@@ -289,12 +290,25 @@ class Source:
         """The same, asked once more if another program has the file for a moment."""
         for _ in range(self.most_tries - 1):
             try:
-                return self.ask(*words)
+                return self.ask_copy(*words)
             except Refused as refused:
                 if refused.number != Refusal.STORE:
                     raise
             time.sleep(SECONDS_BETWEEN_TRIES)
-        return self.ask(*words)
+        return self.ask_copy(*words)
+
+    def ask_copy(self, *words: str) -> str:
+        """Asked of a copy in memory, since the program syncs what it opens, though it only reads."""
+        with self.turn.taken():
+            stamp = self.stamp()
+            if stamp is None or not stamp.is_exact or stamp.log_size >= 568 or not os.access("/dev/shm", os.W_OK):
+                return self.ask(*words)
+            with tempfile.TemporaryDirectory(dir="/dev/shm") as room:
+                path = os.path.join(room, "copy.event")
+                shutil.copyfile(self.file, path)
+                if self.stamp() == stamp:
+                    return Source(self.program, path).ask(*words)
+            return self.ask(*words)
 
     def refusal(self, *words: str) -> int:
         """The number by which this is refused, which the rules refuse in each phase."""
