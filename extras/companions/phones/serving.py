@@ -146,6 +146,7 @@ def server_of(
     behind_proxy: bool,
     now: Callable[[], float] = time.monotonic,
     most: int = MOST_CONNECTIONS,
+    most_body: int = MOST_BODY,
 ) -> Any:
     """Now: the seconds of a clock that nobody sets."""
     import waitress
@@ -165,7 +166,7 @@ def server_of(
         channel_timeout=SECONDS_OF_SILENCE_OF_A_PROXY if behind_proxy else SECONDS_OF_SILENCE,
         cleanup_interval=5,
         max_request_header_size=MOST_HEAD,
-        max_request_body_size=MOST_BODY,
+        max_request_body_size=most_body,
         inbuf_overflow=65536,
         asyncore_use_poll=True,
         ident=None,

@@ -56,9 +56,10 @@ def only(word: str, rest: str) -> None:
 class Desk(cmd.Cmd):
     """Each word is a method: `fix` is `do_fix`. `cmd` finds it; whether to end is what it gives back."""
 
-    def __init__(self, source: Source, file: str):
+    def __init__(self, source: Source, file: str, lines: Optional[Input] = None):
+        """Lines: where they come from, and answers, if that is no terminal and no pipe."""
         super().__init__()
-        self.lines = Input(self.offers, self.is_command)
+        self.lines = lines or Input(self.offers, self.is_command)
         self.session = Session(source, file, self.lines)
         self.results, self.rounds = Results(self.session), Rounds(self.session)
         self.players, self.evening = Players(self.session), Evening(self.session)

@@ -113,6 +113,9 @@ def typing_at_terminal(offers: Offers) -> Typing:
 class Input:
     """Lines from a terminal, with a prompt, or from a pipe, without."""
 
+    # whether the head of a long list goes out of sight
+    scrolls = True
+
     def __init__(self, offers: Offers, is_command: Callable[[str], bool]):
         self.is_command = is_command
         self.typing = typing_at_terminal(offers) if sys.stdin.isatty() else None
@@ -146,7 +149,12 @@ class Input:
 
     @property
     def is_terminal(self) -> bool:
+        """Whether somebody is there who sees each question, and answers it."""
         return self.typing is not None
+
+    def write(self, text: str) -> None:
+        """What is said."""
+        print(text, end="")
 
     def line(self, prompt: str) -> str:
         if self.typing:

@@ -6,8 +6,8 @@ import io
 import sys
 from typing import NoReturn, Optional
 
-from companions.arguments import add_program, status_of
-from companions.program import Source, ready
+from companions.arguments import add_program, port_word, status_of
+from companions.program import Declined, Source, ready
 from companions.prompt.desk import Desk
 from companions.prompt.texts import ALL_COMMANDS
 from companions.turn import Turn
@@ -36,6 +36,10 @@ Beside FILE it keeps FILE.keys, the key of each round, FILE.copies, the copies
 that it makes before what can't be taken back, and FILE.title, the event's name.
 """
 
+NO_WINDOW = """\
+The window is made by Jinja2 and served by waitress. On Debian:
+sudo apt-get install python3-jinja2 python3-waitress"""
+
 
 class Words(argparse.ArgumentParser):
     def error(self, message: str) -> NoReturn:
@@ -49,6 +53,8 @@ def parser() -> argparse.ArgumentParser:
     as_it_is = argparse.RawDescriptionHelpFormatter
     words = Words(prog=COMMAND, description=DESCRIPTION, epilog=below, formatter_class=as_it_is)
     words.add_argument("file", metavar="FILE", help="the event's file")
+    words.add_argument("--window", action="store_true", help="the same by clicks, in a browser on this machine")
+    words.add_argument("--port", type=port_word, default=0, metavar="N", help="of --window; without it a free one")
     add_program(words)
     return words
 
@@ -64,7 +70,17 @@ def prepare_streams() -> None:
 
 def run(words: argparse.Namespace) -> int:
     source = Source(ready(words.program), words.file, Turn(words.file, makes_file=True))
+    if words.window:
+        return served(source, words)
     return Desk(source, words.file).go()
+
+
+def served(source: Source, words: argparse.Namespace) -> int:
+    try:
+        from companions.window.main import serve
+    except ImportError:
+        raise Declined(NO_WINDOW) from None
+    return serve(source, words.file, words.port)
 
 
 def main(arguments: Optional[list[str]] = None) -> int:

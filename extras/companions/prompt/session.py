@@ -166,12 +166,12 @@ class Session:
 
     def write(self, text: str) -> None:
         self.rows += text.count("\n")
-        print(text, end="")
+        self.lines.write(text)
 
     def say_again(self, text: Callable[[], str]) -> None:
         """What counts of a list, if its head is out of sight by now."""
         is_out = self.rows > shutil.get_terminal_size().lines - ROWS_OF_A_LINE
-        if self.lines.is_terminal and is_out:
+        if self.lines.is_terminal and self.lines.scrolls and is_out:
             self.say_filled(text())
 
     def show(self, name: str, *words: str) -> None:

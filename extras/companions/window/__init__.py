@@ -1,0 +1,1 @@
+"""The desk in a browser's window on the same machine."""
