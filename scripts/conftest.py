@@ -63,7 +63,7 @@ def pytest_runtest_makereport(item, call):
     if report.when == "call" and report.passed and not item.stash.get(held, 0):
         report.outcome, report.longrepr = "failed", f"{item.nodeid} asserts nothing"
     if report.failed:
-        item.config.stash[replays].append(f"scripts/test 'scripts/{item.nodeid}' --seed {item.config.option.seed} -vv")
+        item.config.stash[replays].append(f"scripts/test '{item.nodeid}' --seed {item.config.option.seed} -vv")
 
 
 def pytest_terminal_summary(terminalreporter, config):

@@ -33,12 +33,12 @@ def types_of_companions(_given, _rest):
         print("left out: types of the companions, as mypy is not installed", flush=True)
         return True
     with tempfile.TemporaryDirectory() as room:
-        return passes(["mypy", "--config-file", "extras/mypy.ini", "--cache-dir", room, "extras/companions"])
+        return passes(["mypy", "--cache-dir", room])
 
 
 def tests_of_companions(_given, rest, names=("extras/tests",)):
     """They need no program, and are counted by pytest."""
-    return passes([python(), "-B", "-m", "pytest", "-q", "-p", "no:cacheprovider", *names, *rest])
+    return passes([python(), "-B", "-m", "pytest", "-q", *names, *rest])
 
 
 def crash(is_long):
@@ -200,11 +200,6 @@ def script_passes(path, given):
         return all([step_passes(line, given, [], room) for line in lines_running(path, given.long)])
 
 
-def path_of(word):
-    """Pytest lists cases from the folder of the scripts on."""
-    return word if os.path.exists(f"{TOP}/{word.partition('::')[0]}") else f"scripts/{word}"
-
-
 def cases_pass(cases, given, rest):
     """Cases, files and folders of pytest, each with what its folder shares."""
     own = [it for it in cases if it.startswith("extras/")]
@@ -234,7 +229,7 @@ def main():
     unknown = [it for it in given.parts if "/" not in it and it not in PARTS]
     if unknown:
         words.error(f"{unknown[0]} is no part: {', '.join(PARTS)}")
-    paths = [path_of(it) for it in given.parts if "/" in it]
+    paths = [it for it in given.parts if "/" in it]
     scripts = [it for it in paths if lines_running(it, given.long)]
     cases = [it for it in paths if it not in scripts]
     with compiled():
