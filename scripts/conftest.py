@@ -30,8 +30,16 @@ held, replays = pytest.StashKey[int](), pytest.StashKey[list]()
 
 def pytest_addoption(parser):
     words = parser.getgroup("event_reporter")
-    words.addoption("--program", default=f"{TOP}/crates/event_reporter/out/event_reporter", help="the program; without it, the one that is built here")
-    words.addoption("--seed", type=int, help="play the random ones of this number again; without it, the time of the commit")
+    words.addoption(
+        "--program",
+        default=f"{TOP}/crates/event_reporter/out/event_reporter",
+        help="the program; without it, the one that is built here",
+    )
+    words.addoption(
+        "--seed",
+        type=int,
+        help="play the random ones of this number again; without it, the time of the commit",
+    )
     words.addoption("--long", action="store_true", help="try much more, outside the test command")
 
 
@@ -63,7 +71,9 @@ def pytest_runtest_makereport(item, call):
     if report.when == "call" and report.passed and not item.stash.get(held, 0):
         report.outcome, report.longrepr = "failed", f"{item.nodeid} asserts nothing"
     if report.failed:
-        item.config.stash[replays].append(f"scripts/test '{item.nodeid}' --seed {item.config.option.seed} -vv")
+        item.config.stash[replays].append(
+            f"scripts/test '{item.nodeid}' --seed {item.config.option.seed} -vv"
+        )
 
 
 def pytest_terminal_summary(terminalreporter, config):

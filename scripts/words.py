@@ -17,7 +17,9 @@ COLUMNS = 96
 
 def told(text):
     """The text of a script, but for the lines that show how it is called."""
-    return "\n\n".join(textwrap.fill(it, COLUMNS) for it in text.strip().split("\n\n") if not it.startswith("    "))
+    return "\n\n".join(
+        textwrap.fill(it, COLUMNS) for it in text.strip().split("\n\n") if not it.startswith("    ")
+    )
 
 
 def given_by(text, **words):
@@ -25,7 +27,11 @@ def given_by(text, **words):
     # a script is called by the whole name of its module
     spec = sys.modules["__main__"].__spec__
     as_it_is = argparse.RawDescriptionHelpFormatter
-    parser = argparse.ArgumentParser(prog=spec.name if spec else None, description=told(text), formatter_class=as_it_is)
+    parser = argparse.ArgumentParser(
+        prog=spec.name if spec else None, description=told(text), formatter_class=as_it_is
+    )
     for name, word in words.items():
-        parser.add_argument(name, type=word.read, metavar=name.upper(), help=word.help, nargs=word.nargs, default=word.default)
+        parser.add_argument(
+            name, type=word.read, metavar=name.upper(), help=word.help, nargs=word.nargs, default=word.default
+        )
     return vars(parser.parse_args())

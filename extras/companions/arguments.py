@@ -65,7 +65,9 @@ def status_of(command: str, run: Callable[[], int], when_interrupted: int = 0) -
         os.dup2(os.open(os.devnull, os.O_WRONLY), 1)
         return 3
     except OSError as fault:
-        print(f"{command}: {f'{fault.filename}: ' if fault.filename else ''}{fault.strerror}", file=sys.stderr)
+        print(
+            f"{command}: {f'{fault.filename}: ' if fault.filename else ''}{fault.strerror}", file=sys.stderr
+        )
         return 3
 
 

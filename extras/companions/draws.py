@@ -278,6 +278,4 @@ def differences(before: Lists, now: Lists) -> list[str]:
 
 def matches_in(lists: Lists) -> dict[tuple[int, int], object]:
     rounds = rounds_of(lists.results.decode())
-    return {
-        (number, match.place): match for number, matches in enumerate(rounds, 1) for match in matches
-    }
+    return {(number, match.place): match for number, matches in enumerate(rounds, 1) for match in matches}

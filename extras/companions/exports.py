@@ -50,7 +50,9 @@ def results_csv(event: Event) -> str:
 
 def matches_csv(places: tuple[str, str], lists: Rounds, players: Optional[Players]) -> str:
     heading = (*places, "a", "b", "x", "y", "d", *(("name_a", "name_b") if players else ()))
-    return csv_of(heading, [match_row(at, it, players) for at, matches in enumerate(lists, 1) for it in matches])
+    return csv_of(
+        heading, [match_row(at, it, players) for at, matches in enumerate(lists, 1) for it in matches]
+    )
 
 
 def match_row(at: int, match: Match, players: Optional[Players]) -> tuple[object, ...]:

@@ -23,8 +23,7 @@ class Keys:
         self.write(f"round {number} {key}\n")
 
     def mark_unused(self, number: int, key: str) -> None:
-        """Of a key by which the round was not paired: it could be read meanwhile, so it is never taken again.
-        """
+        """Of a key by which the round was not paired: it could be read meanwhile, so it is never taken again."""
         self.write(f"round {number} {key} unused\n")
 
     def write(self, line: str) -> None:

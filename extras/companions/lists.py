@@ -116,8 +116,7 @@ def cells_of(line: str, columns: dict[str, slice], last: str) -> Row:
 
 
 def rows_of_text(text: str, *names: str) -> Iterator[Row]:
-    """The rows of a text whose heading has these names, among which the last one of the heading stands last.
-    """
+    """The rows of a text whose heading has these names, among which the last one of the heading stands last."""
     heading, *lines = lines_of(text)
     columns = columns_of(heading, names)
     for line in lines:

@@ -11,12 +11,38 @@ from typing import Callable, Iterable, Tuple, TypeVar
 TURNING = set("\u202a\u202b\u202c\u202d\u202e\u2066\u2067\u2068\u2069\u200e\u200f\u061c")
 
 # letters that Unicode doesn't take apart, as they are typed where a keyboard hasn't them
-SPELT = str.maketrans({
-    "ł": "l", "ø": "o", "đ": "d", "ð": "d", "ħ": "h", "ŧ": "t", "ǥ": "g", "ı": "i", "ĸ": "k",
-    "æ": "ae", "œ": "oe", "þ": "th", "ŋ": "ng", "ə": "e", "ǝ": "e",
-    "ɓ": "b", "ɖ": "d", "ɗ": "d", "ɛ": "e", "ƒ": "f", "ɣ": "g", "ɨ": "i", "ƙ": "k",
-    "ɲ": "n", "ɔ": "o", "ʉ": "u", "ʋ": "v", "ƴ": "y",
-})
+SPELT = str.maketrans(
+    {
+        "ł": "l",
+        "ø": "o",
+        "đ": "d",
+        "ð": "d",
+        "ħ": "h",
+        "ŧ": "t",
+        "ǥ": "g",
+        "ı": "i",
+        "ĸ": "k",
+        "æ": "ae",
+        "œ": "oe",
+        "þ": "th",
+        "ŋ": "ng",
+        "ə": "e",
+        "ǝ": "e",
+        "ɓ": "b",
+        "ɖ": "d",
+        "ɗ": "d",
+        "ɛ": "e",
+        "ƒ": "f",
+        "ɣ": "g",
+        "ɨ": "i",
+        "ƙ": "k",
+        "ɲ": "n",
+        "ɔ": "o",
+        "ʉ": "u",
+        "ʋ": "v",
+        "ƴ": "y",
+    }
+)
 # what people type for an apostrophe, and what stands for one in other spellings
 APOSTROPHES = "'`\u00b4\u2018\u2019\u201b\u2032\u02b9\u02bb\u02bc\u02bd\u02be\u02bf"
 MINUS, MIDDLE_DOT = "\u2212", "\u00b7"

@@ -204,13 +204,23 @@ class Kept:
         self.older, self.newest, self.serial = (None, []), (None, []), serial
 
     def carry(
-        self, serial: int, before: Optional[Stamp], after: Optional[Stamp], number: int, table: int, score: Score
+        self,
+        serial: int,
+        before: Optional[Stamp],
+        after: Optional[Stamp],
+        number: int,
+        table: int,
+        score: Score,
     ) -> None:
         """A result was taken. It changes no player and no other match, and where it is the next command after
         the one before, nobody else changed them.
         """
         is_next = serial == self.serial + 1
-        players, older, newest = self.text(PLAYERS, before), self.older_rounds(before), self.newest_round(before)
+        players, older, newest = (
+            self.text(PLAYERS, before),
+            self.older_rounds(before),
+            self.newest_round(before),
+        )
         self.forget(serial)
         if is_next and newest is not None and older is not None and number == len(older) + 1:
             scored = [replace(it, score=score) if it.place == table else it for it in newest]
@@ -301,7 +311,12 @@ class Source:
         """Asked of a copy in memory, since the program syncs what it opens, though it only reads."""
         with self.turn.taken():
             stamp = self.stamp()
-            if stamp is None or not stamp.is_exact or stamp.log_size >= 568 or not os.access("/dev/shm", os.W_OK):
+            if (
+                stamp is None
+                or not stamp.is_exact
+                or stamp.log_size >= 568
+                or not os.access("/dev/shm", os.W_OK)
+            ):
                 return self.ask(*words)
             with tempfile.TemporaryDirectory(dir="/dev/shm") as room:
                 path = os.path.join(room, "copy.event")

@@ -139,7 +139,11 @@ class Replay:
             return
         words = [self.made.program, "serve", self.made.file, "0", str(len(new))]
         with subprocess.Popen(
-            words, stdin=subprocess.DEVNULL, stdout=subprocess.PIPE, stderr=subprocess.DEVNULL, start_new_session=True
+            words,
+            stdin=subprocess.DEVNULL,
+            stdout=subprocess.PIPE,
+            stderr=subprocess.DEVNULL,
+            start_new_session=True,
         ) as serving:
             try:
                 scores = [Waiting(number, it.place, it.score, None, math.inf) for it in new]

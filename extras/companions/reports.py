@@ -177,7 +177,9 @@ def settle(reports: Reports, number: int, match: Match) -> None:
     """The scorekeeper has stored a score, whatever the phones said before."""
     said = {report.outcome for report in reports.of_match(number, match)}
     if match.score and said & {OTHER, WAITS, WRONG}:
-        reports.add(Report(time.strftime(TIME), number, *match.seats, match.score, SETTLED, match.score, "the prompt"))
+        reports.add(
+            Report(time.strftime(TIME), number, *match.seats, match.score, SETTLED, match.score, "the prompt")
+        )
 
 
 # ---- what the scorekeeper has to look at
@@ -197,7 +199,9 @@ class TwoScores:
     def told(self) -> str:
         newest = self.said[-1]
         said = "that it is wrong" if newest.outcome == WRONG else newest.score.short
-        return f"{self.head} at table {self.match.place}: stored is {self.stored.short}, and a phone says {said}"
+        return (
+            f"{self.head} at table {self.match.place}: stored is {self.stored.short}, and a phone says {said}"
+        )
 
     @property
     def head(self) -> str:

@@ -93,9 +93,7 @@ def is_of(name: ShownName, players: Players) -> bool:
 def with_shown_names(text: str, enrolled: Players, shown: Players) -> str:
     """A text of the program, in which the last column has the names by which players are shown."""
     changed = {
-        number: shown[number].name
-        for number, player in enrolled.items()
-        if shown[number].name != player.name
+        number: shown[number].name for number, player in enrolled.items() if shown[number].name != player.name
     }
     if not changed:
         return text

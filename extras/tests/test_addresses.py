@@ -21,8 +21,16 @@ def finds(_port):
 
 def test_addresses_are_offered_by_their_numbers(capsys):
     asked = []
-    assert addresses.address_chosen("Which?", ask=lambda text: asked.append(text) or " 2 ", find=finds) == finds(0)[1]
-    assert capsys.readouterr().out.split("\n")[:4] == ["Which?", "This machine has:", "  1  http://192.168.1.10:8080", "  2  http://10.0.0.7:8080"]
+    assert (
+        addresses.address_chosen("Which?", ask=lambda text: asked.append(text) or " 2 ", find=finds)
+        == finds(0)[1]
+    )
+    assert capsys.readouterr().out.split("\n")[:4] == [
+        "Which?",
+        "This machine has:",
+        "  1  http://192.168.1.10:8080",
+        "  2  http://10.0.0.7:8080",
+    ]
     for typed in ("", "0", "3", "x"):
         with pytest.raises(Declined, match="Nothing was chosen"):
             addresses.address_chosen("Which?", ask=lambda _: typed, find=finds)
@@ -43,7 +51,13 @@ def test_what_reaches_no_other_machine_is_not_offered(monkeypatch):
 
 @pytest.mark.parametrize(
     "at, is_alone",
-    [("http://127.0.0.1:8080", True), ("http://localhost", True), ("http://[::1]:1", True), ("http://192.168.1.10", False), ("https://a.example", False)],
+    [
+        ("http://127.0.0.1:8080", True),
+        ("http://localhost", True),
+        ("http://[::1]:1", True),
+        ("http://192.168.1.10", False),
+        ("https://a.example", False),
+    ],
 )
 def test_an_address_of_this_machine_alone(at, is_alone):
     assert addresses.is_of_this_machine_alone(at) == is_alone
@@ -51,7 +65,13 @@ def test_an_address_of_this_machine_alone(at, is_alone):
 
 @pytest.mark.parametrize(
     "text, place",
-    [("127.0.0.1:80", ("127.0.0.1", 80)), ("a", ("a", 8080)), ("::1", ("::1", 8080)), ("[::1]", ("::1", 8080)), ("[fd00::1]:81", ("fd00::1", 81))],
+    [
+        ("127.0.0.1:80", ("127.0.0.1", 80)),
+        ("a", ("a", 8080)),
+        ("::1", ("::1", 8080)),
+        ("[::1]", ("::1", 8080)),
+        ("[fd00::1]:81", ("fd00::1", 81)),
+    ],
 )
 def test_where_to_listen(text, place):
     assert host_and_port(text, 8080) == place
@@ -77,7 +97,9 @@ def test_an_address_of_another_machine_is_told_apart_from_a_port_that_is_held(mo
 def test_the_python_that_lacks_a_package_is_named(monkeypatch):
     monkeypatch.setattr("sys.executable", "/opt/other/bin/python3")
     text = not_installed(["python3-waitress"])
-    assert "not installed for /opt/other/bin/python3" in text and "sudo apt-get install python3-waitress" in text
+    assert (
+        "not installed for /opt/other/bin/python3" in text and "sudo apt-get install python3-waitress" in text
+    )
     assert "by Debian's Python: /usr/bin/python3 " in text
     monkeypatch.setattr("sys.executable", "/usr/bin/python3")
     assert "by Debian's Python" not in not_installed(["python3-waitress"])

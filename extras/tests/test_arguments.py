@@ -17,7 +17,11 @@ def raising(fault):
     [
         (Declined("It is no page."), 3, "event-x: It is no page.\n"),
         (Unread("No memory was left.", 4), 4, "event-x: No memory was left.\n"),
-        (FileNotFoundError(2, "No such file or directory", "none/e"), 3, "event-x: none/e: No such file or directory\n"),
+        (
+            FileNotFoundError(2, "No such file or directory", "none/e"),
+            3,
+            "event-x: none/e: No such file or directory\n",
+        ),
         (OSError(28, "No space left on device"), 3, "event-x: No space left on device\n"),
         (KeyboardInterrupt(), 130, ""),
     ],

@@ -86,11 +86,16 @@ def test_where_both_have_to_say_it_each_seat_has_a_code():
 def test_a_link_is_made_of_the_player():
     key = bytes(range(32))
     ana = Player(12, "Zoë Kim", False)
-    value, letters = int(hmac.new(key, "event_reporter player 1: 12 Zoë Kim".encode(), hashlib.sha256).hexdigest(), 16), "BCDFGHJKLMNPQRSTVWXZ"
+    value, letters = (
+        int(hmac.new(key, "event_reporter player 1: 12 Zoë Kim".encode(), hashlib.sha256).hexdigest(), 16),
+        "BCDFGHJKLMNPQRSTVWXZ",
+    )
     due = "".join(letters[value // 20**place % 20] for place in range(12))
     secret = Secret(AT, key)
     assert (secret.link_code(ana), secret.link(ana)) == (due, f"/p/12/{due}")
-    assert secret.is_link(ana, shown_code(due).lower()) and shown_code(due) == f"{due[:4]}-{due[4:8]}-{due[8:]}"
+    assert (
+        secret.is_link(ana, shown_code(due).lower()) and shown_code(due) == f"{due[:4]}-{due[4:8]}-{due[8:]}"
+    )
     for other in (Player(13, "Zoë Kim", False), Player(12, "Zoe Kim", False)):
         assert not secret.is_link(other, due)
 

@@ -77,10 +77,16 @@ def test_a_round_says_how_it_was_drawn(plain, file, kind):
 @pytest.mark.parametrize("kind", ["tables", "names"])
 def test_a_key_that_was_chosen_is_told(plain, file, kind):
     plain.pair(1, bytes(32))
-    assert part_of(kind, event_of(plain, file), 1).drawn == "The scorekeeper could steer who meets whom: no public draw"
+    assert (
+        part_of(kind, event_of(plain, file), 1).drawn
+        == "The scorekeeper could steer who meets whom: no public draw"
+    )
     # also in the evening of a draw
     Draws(file).keep_rule(rule_of("each 4d20"))
-    assert part_of(kind, event_of(plain, file), 1).drawn == "The scorekeeper could steer who meets whom: no public draw"
+    assert (
+        part_of(kind, event_of(plain, file), 1).drawn
+        == "The scorekeeper could steer who meets whom: no public draw"
+    )
     assert "The scorekeeper could steer who meets whom: no public draw" in page(plain, file, ["draw"])
 
 
@@ -161,7 +167,10 @@ def test_pairings_on_a_phone(plain, file, tmp_path):
 
 def test_a_chosen_key_on_a_phone(plain, tmp_path):
     plain.pair(1, bytes(32))
-    assert "The scorekeeper could steer who meets whom: no public draw" in Room(tmp_path, plain).ask("GET", "/pairings").text
+    assert (
+        "The scorekeeper could steer who meets whom: no public draw"
+        in Room(tmp_path, plain).ask("GET", "/pairings").text
+    )
     assert "the scorekeeper chooses the keys" in Room(tmp_path, plain).ask("GET", "/draw").text
 
 

@@ -130,7 +130,7 @@ def test_the_text_of_a_round_is_the_newest_one_with_its_tables(draws):
 
 
 def test_what_differs_between_two_drawings():
-    names = b"no,name,dropped\n1,Ana,0\n2,Bo,0\n3,\"Lima, Ed\",1\n"
+    names = b'no,name,dropped\n1,Ana,0\n2,Bo,0\n3,"Lima, Ed",1\n'
     row = b"1,1,1,2,%s\n1,0,3,0,2,0,0\n"
     before = Lists(names, HEADING + row % b"2,0,0")
     assert differences(before, before) == []
@@ -138,7 +138,10 @@ def test_what_differs_between_two_drawings():
     told = ["4 came", "2 has another name", "2 dropped", "3 is in again", "round 1, table 1 is otherwise"]
     assert differences(before, Lists(other, HEADING + row % b"2,1,0")) == told
     assert differences(before, Lists(names[:24], HEADING)) == [
-        "2 is gone", "3 is gone", "round 1, table 0 is otherwise", "round 1, table 1 is otherwise"
+        "2 is gone",
+        "3 is gone",
+        "round 1, table 0 is otherwise",
+        "round 1, table 1 is otherwise",
     ]
 
 

@@ -34,7 +34,11 @@ def test_names_are_rows_of_a_list_that_import_takes(entries):
     for name in ("Ana Lima", "Sato, Bo", "-Zoë", 'Peter "Pit" Kim', "=1+1"):
         entries.add(name, "10.0.0.7")
     assert entries.all() == [
-        Entry(2, "Ana Lima"), Entry(3, "Sato, Bo"), Entry(4, "-Zoë"), Entry(5, 'Peter "Pit" Kim'), Entry(6, "=1+1")
+        Entry(2, "Ana Lima"),
+        Entry(3, "Sato, Bo"),
+        Entry(4, "-Zoë"),
+        Entry(5, 'Peter "Pit" Kim'),
+        Entry(6, "=1+1"),
     ]
     roster = roster_of(read_list(entries.path), {"Ana Lima"}, "utf-8")
     assert (roster.names, roster.already) == (["Sato, Bo", "-Zoë", 'Peter "Pit" Kim', "=1+1"], ["Ana Lima"])

@@ -21,9 +21,8 @@ def test_standings(dice):
     heading, *found = rows(standings_csv(Event(FromModel(event))))
     assert heading == ["rank", "no", "points", "omw", "gwp", "ogw", "dropped", "name"]
     assert found == [
-        [
-            rank, number, points, *shares, str(int(dropped == "D")), name
-        ] for rank, number, name, dropped, points, *shares in standings_due(event)
+        [rank, number, points, *shares, str(int(dropped == "D")), name]
+        for rank, number, name, dropped, points, *shares in standings_due(event)
     ]
 
 
@@ -48,7 +47,11 @@ def test_results_and_playoff_with_names(dice):
         heading, *found = rows(text)
         assert heading == [*first, "a", "b", "x", "y", "d", "name_a", "name_b"]
         assert found == [
-            [*map(str, (number, place if b else 0, a, b, *(score or ("", "", "")))), event.names[a - 1], event.names[b - 1] if b else ""]
+            [
+                *map(str, (number, place if b else 0, a, b, *(score or ("", "", "")))),
+                event.names[a - 1],
+                event.names[b - 1] if b else "",
+            ]
             for number, matches in enumerate(lists, 1)
             for place, (a, b, score) in enumerate(matches, 1)
         ]
@@ -58,7 +61,10 @@ def test_the_final_ranking_with_points_and_records(dice):
     event = evening(dice, 13, ENDED, 3, 4, True)
     heading, *found = rows(final_csv(Event(FromModel(event))))
     assert heading == ["rank", "no", "points", "won", "lost", "drawn", "name"]
-    due = [(rank, number, points, *(record.split("-") if record else ["", "", ""]), name) for rank, number, name, record, points in final_rows(event)]
+    due = [
+        (rank, number, points, *(record.split("-") if record else ["", "", ""]), name)
+        for rank, number, name, record, points in final_rows(event)
+    ]
     assert [tuple(row) for row in found] == due
 
 

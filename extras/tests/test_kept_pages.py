@@ -54,7 +54,12 @@ def test_all_wait_for_the_first_page_and_one_makes_it():
 def test_a_page_is_made_at_most_every_five_seconds():
     lists = Lists()
     lists.ask()
-    for lists.version, lists.seconds, due in ((2, 4.9, "page 1"), (3, 5.0, "page 2"), (4, 9.9, "page 2"), (4, 10.0, "page 3")):
+    for lists.version, lists.seconds, due in (
+        (2, 4.9, "page 1"),
+        (3, 5.0, "page 2"),
+        (4, 9.9, "page 2"),
+        (4, 10.0, "page 3"),
+    ):
         assert lists.ask() == due
     # one that shows what it has to is made no more, and one of another pairing at once
     lists.seconds = 1000.0

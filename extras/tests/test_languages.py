@@ -42,7 +42,10 @@ def test_a_table_is_laid_out_as_the_template_writes_it(language):
 
 
 def test_the_template_says_what_is_missing(monkeypatch, capsys):
-    assert languages.template({"name": "Nome", "of no use": "x"}) == {**dict.fromkeys(ENGLISH, ""), "name": "Nome"}
+    assert languages.template({"name": "Nome", "of no use": "x"}) == {
+        **dict.fromkeys(ENGLISH, ""),
+        "name": "Nome",
+    }
     monkeypatch.setattr(sys, "argv", ["languages", "fr"])
     languages.main()
     *named, last = capsys.readouterr().out.splitlines()
@@ -86,4 +89,9 @@ def test_the_language_that_a_phone_likes_best(accepted, language):
 
 
 def test_other_phones_are_answered_in_the_language_of_the_room():
-    assert [language_for(accepted, "de") for accepted in ("", "fr", "en", "fr, en;q=0.1")] == ["de", "de", "en", "en"]
+    assert [language_for(accepted, "de") for accepted in ("", "fr", "en", "fr, en;q=0.1")] == [
+        "de",
+        "de",
+        "en",
+        "en",
+    ]

@@ -4,7 +4,11 @@ from conftest import left_out
 
 def test_each_file_that_was_left_out_has_a_line():
     jinja = "Skipped: could not import 'jinja2': No module named 'jinja2'"
-    skipped = [("tests/test_page.py", 9, jinja), ("tests/test_page.py", 9, jinja), ("tests/test_look.py", 3, "Skipped: it is late")]
+    skipped = [
+        ("tests/test_page.py", 9, jinja),
+        ("tests/test_page.py", 9, jinja),
+        ("tests/test_look.py", 3, "Skipped: it is late"),
+    ]
     assert left_out(skipped) == [
         "left out: tests of test_look.py, as it is late",
         "left out: tests of test_page.py, as jinja2 is not installed",

@@ -54,7 +54,9 @@ def test_a_network_of_ipv6_has_a_limit_too(monkeypatch):
     buckets = OriginBuckets(3, 10.0)
     assert [buckets.take("fd00::1") for _ in range(4)] == [True, True, True, False]
     passed = [buckets.take(f"fd00::{host:x}") for host in range(2, 100)]
-    assert passed == [True] * (3 * ADDRESSES_OF_A_NETWORK - 4) + [False] * (98 - 3 * ADDRESSES_OF_A_NETWORK + 4)
+    assert passed == [True] * (3 * ADDRESSES_OF_A_NETWORK - 4) + [False] * (
+        98 - 3 * ADDRESSES_OF_A_NETWORK + 4
+    )
     assert buckets.take("fd00:0:0:1::1") and buckets.take("192.168.1.7")
 
 

@@ -28,9 +28,21 @@ def test_numbers():
             numbers_in(line, 3, 4, "17 2 1")
 
 
-@pytest.mark.parametrize("line", [
-    "7 2 1", "7 2-1", "7 2:1", "7,2,1", "7\t2\t1", "7 2 - 1", "7; 2; 1", "7 2\u20131", " 7  2 , 1 ", "07 2-1",
-])
+@pytest.mark.parametrize(
+    "line",
+    [
+        "7 2 1",
+        "7 2-1",
+        "7 2:1",
+        "7,2,1",
+        "7\t2\t1",
+        "7 2 - 1",
+        "7; 2; 1",
+        "7 2\u20131",
+        " 7  2 , 1 ",
+        "07 2-1",
+    ],
+)
 def test_results_as_people_type_them(line):
     assert numbers_in(line, 3, 4, "17 2 1") == ["7", "2", "1"]
 
@@ -41,26 +53,39 @@ def test_what_is_no_result(line):
         numbers_in(line, 3, 4, "17 2 1")
 
 
-@pytest.mark.parametrize("line, score", [
-    ("7 20", "7 2 0"),
-    ("7 201", "7 2 0 1"),
-    ("17 id", "17 0 0 3"),
-    ("17 ID", "17 0 0 3"),
-    ("3 17 id", "3 17 0 0 3"),
-    ("7 2 0", "7 2 0"),
-    ("7 2-1", "7 2-1"),
-    ("7 45", "7 45"),
-    ("7 2", "7 2"),
-    ("20", "20"),
-    ("id", "id"),
-])
+@pytest.mark.parametrize(
+    "line, score",
+    [
+        ("7 20", "7 2 0"),
+        ("7 201", "7 2 0 1"),
+        ("17 id", "17 0 0 3"),
+        ("17 ID", "17 0 0 3"),
+        ("3 17 id", "3 17 0 0 3"),
+        ("7 2 0", "7 2 0"),
+        ("7 2-1", "7 2-1"),
+        ("7 45", "7 45"),
+        ("7 2", "7 2"),
+        ("20", "20"),
+        ("id", "id"),
+    ],
+)
 def test_scores_without_spaces_and_intended_draws(line, score):
     assert with_score(line) == score
 
 
-@pytest.mark.parametrize("text, minutes", [
-    ("50", 50), ("50min", 50), ("50 min", 50), ("50 Minutes", 50), ("5m", 5), ("x", None), ("", None), ("-3", None)
-])
+@pytest.mark.parametrize(
+    "text, minutes",
+    [
+        ("50", 50),
+        ("50min", 50),
+        ("50 min", 50),
+        ("50 Minutes", 50),
+        ("5m", 5),
+        ("x", None),
+        ("", None),
+        ("-3", None),
+    ],
+)
 def test_minutes(text, minutes):
     assert minutes_in(text) == minutes
 
@@ -72,23 +97,29 @@ def test_minutes_of_a_clock():
             minutes_of(text, "clock 50")
 
 
-@pytest.mark.parametrize("rest, found", [
-    ("", ("", None)),
-    ("50", ("", 50)),
-    ("50min", ("", 50)),
-    ("again", ("again", None)),
-    ("again 45", ("again", 45)),
-    ("12" * 32, ("12" * 32, None)),
-    (f"{'12' * 32} 50", ("12" * 32, 50)),
-    ("xyz", ("xyz", None)),
-])
+@pytest.mark.parametrize(
+    "rest, found",
+    [
+        ("", ("", None)),
+        ("50", ("", 50)),
+        ("50min", ("", 50)),
+        ("again", ("again", None)),
+        ("again 45", ("again", 45)),
+        ("12" * 32, ("12" * 32, None)),
+        (f"{'12' * 32} 50", ("12" * 32, 50)),
+        ("xyz", ("xyz", None)),
+    ],
+)
 def test_what_follows_pair(rest, found):
     assert word_and_minutes(rest) == found
 
 
 def test_the_prompt_says_which_round_it_is_in():
     assert [prompt_at(it) for it in (Progress(), Progress(1), Progress(12), Progress(6, is_cut=True))] == [
-        "desk> ", "r1> ", "r12> ", "playoff> "
+        "desk> ",
+        "r1> ",
+        "r12> ",
+        "playoff> ",
     ]
 
 
@@ -98,14 +129,17 @@ def test_a_word_that_takes_nothing():
         only("cut", "4")
 
 
-@pytest.mark.parametrize("one, other, have", [
-    ("Petr Mayer", "Peter Meyer", True),
-    ("Ana", "Anna", True),
-    ("Cy", "Cyril", True),
-    ("Łukasz Kowalski", "Lukasz Nowak", True),
-    ("Björn Åström", "Łukasz Kowalski", False),
-    ("Bo", "Anna", False),
-])
+@pytest.mark.parametrize(
+    "one, other, have",
+    [
+        ("Petr Mayer", "Peter Meyer", True),
+        ("Ana", "Anna", True),
+        ("Cy", "Cyril", True),
+        ("Łukasz Kowalski", "Lukasz Nowak", True),
+        ("Björn Åström", "Łukasz Kowalski", False),
+        ("Bo", "Anna", False),
+    ],
+)
 def test_names_with_a_word_in_common(one, other, have):
     assert have_a_word_in_common(one, other) == have
 
@@ -123,7 +157,9 @@ def test_help_fits_a_terminal_of_24_lines():
     assert COMMANDS.count(PAIR) == drawn.count(PAIR_BY_DICE) == 1
     assert BEGINNING.count(FIRST_PAIR) == begins.count(FIRST_PAIR_BY_DICE) == 1
     assert max(text.count("\n") for text in (COMMANDS, drawn, BEGINNING, PLAYOFF)) <= 22
-    assert [line for line in (ALL_COMMANDS + drawn + BEGINNING + begins + PLAYOFF).split("\n") if len(line) > 80] == []
+    assert [
+        line for line in (ALL_COMMANDS + drawn + BEGINNING + begins + PLAYOFF).split("\n") if len(line) > 80
+    ] == []
 
 
 def test_a_count_of_drawn_games_that_is_not_there_is_0():

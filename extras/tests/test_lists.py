@@ -35,9 +35,8 @@ def test_standings(events):
         merits = event.merits()
         read = standings_of(text_of(event.standings()))
         assert [(it.player.number, it.player.name, it.player.has_dropped, it.points) for it in read] == [
-            (
-                number, event.names[number - 1], number in event.dropped, str(merits[number][0])
-            ) for number in merits
+            (number, event.names[number - 1], number in event.dropped, str(merits[number][0]))
+            for number in merits
         ]
 
 
@@ -45,7 +44,8 @@ def test_pairings(events):
     for event in events:
         for number, matches in enumerate(event.stored, 1):
             assert pairings_of(text_of(event.slips(number))) == [
-                Match(place if b else 0, a, b, score and Score(*score)) for place, (a, b, score) in enumerate(matches, 1)
+                Match(place if b else 0, a, b, score and Score(*score))
+                for place, (a, b, score) in enumerate(matches, 1)
             ]
 
 
@@ -72,29 +72,37 @@ def test_lists(events):
         ]
         assert rounds_of(csv_of(["round", "table", "a", "b", "x", "y", "d"], *rows)) == [
             [
-                Match(place if b else 0, a, b, score and Score(*score)) for place, (a, b, score) in enumerate(it, 1)
-            ] for it in event.stored
+                Match(place if b else 0, a, b, score and Score(*score))
+                for place, (a, b, score) in enumerate(it, 1)
+            ]
+            for it in event.stored
         ]
 
 
 def test_a_name_is_found_by_the_heading_wherever_it_stands():
-    assert standings_of(
-        "Rank    No Pts    OMW    GWP    OGW D Name\n   1     7   3  33.00 100.00  33.00 D Ana - Bo\n"
-    )[0].player.name == "Ana - Bo"
+    assert (
+        standings_of(
+            "Rank    No Pts    OMW    GWP    OGW D Name\n   1     7   3  33.00 100.00  33.00 D Ana - Bo\n"
+        )[0].player.name
+        == "Ana - Bo"
+    )
 
 
-@pytest.mark.parametrize("reader, text", [
-    (standings_of, "<html>\n"),
-    (standings_of, ""),
-    (pairings_of, " Tab    A    B Score Names\n   1    1    2 -     An"),
-    (pairings_of, " Tab    A    B Score Names\nxxxx    1    2 -     Ana\n"),
-    (bracket_of, "Champion 3 Cy\n"),
-    (players_of, "no,name,dropped\n1,Ana,0\n2,\"Li"),
-    (players_of, "no,name,dropped\n1,Ana\n"),
-    (players_of, "no,name,dropped\n1,\"Ana,0\n"),
-    (players_of, "name\nAna\n"),
-    (rounds_of, "round,table,a,b,x,y,d\n2,1,1,2,2,0,0\n"),
-])
+@pytest.mark.parametrize(
+    "reader, text",
+    [
+        (standings_of, "<html>\n"),
+        (standings_of, ""),
+        (pairings_of, " Tab    A    B Score Names\n   1    1    2 -     An"),
+        (pairings_of, " Tab    A    B Score Names\nxxxx    1    2 -     Ana\n"),
+        (bracket_of, "Champion 3 Cy\n"),
+        (players_of, 'no,name,dropped\n1,Ana,0\n2,"Li'),
+        (players_of, "no,name,dropped\n1,Ana\n"),
+        (players_of, 'no,name,dropped\n1,"Ana,0\n'),
+        (players_of, "name\nAna\n"),
+        (rounds_of, "round,table,a,b,x,y,d\n2,1,1,2,2,0,0\n"),
+    ],
+)
 def test_what_is_no_list_or_ends_in_the_middle_is_not_read(reader, text):
     with pytest.raises(Unreadable):
         reader(text)

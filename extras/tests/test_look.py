@@ -35,20 +35,23 @@ def test_lines_as_toml_has_them_and_as_people_write_them(file, tmp_path):
     assert written(file, plain) == Look("Modern, Owls", "#bb3300", "", False) and look_of(file).faults == ()
 
 
-@pytest.mark.parametrize("line, fault", [
-    ("subtitle", 'line 2: It is no line, as: subtitle = "Owls Game Shop"'),
-    ("colour = red", "line 2: There is no colour. There are subtitle, accent, logo, dark, language."),
-    ("accent = red", 'line 2: It is no colour, as: accent = "#b33a00"'),
-    ('accent = "#12345"', "It is no colour"),
-    ("language = fr", "line 2: There is no language fr. There are en, de."),
-    ("dark = maybe", "line 2: It is neither true nor false, as: dark = true"),
-    ("logo = none.png", "There is no none.png beside the event that can be read."),
-    ("logo = ../owls.png", "Name a file that lies beside the event"),
-    ('logo = "/etc/passwd"', "Name a file that lies beside the event"),
-    ("logo = ", "It is no line"),
-    ("logo = text.png", "text.png is no picture. There are PNG, JPEG, GIF, WebP and SVG."),
-    ("logo = large.png", "large.png has more than 200 kB. Make it smaller."),
-])
+@pytest.mark.parametrize(
+    "line, fault",
+    [
+        ("subtitle", 'line 2: It is no line, as: subtitle = "Owls Game Shop"'),
+        ("colour = red", "line 2: There is no colour. There are subtitle, accent, logo, dark, language."),
+        ("accent = red", 'line 2: It is no colour, as: accent = "#b33a00"'),
+        ('accent = "#12345"', "It is no colour"),
+        ("language = fr", "line 2: There is no language fr. There are en, de."),
+        ("dark = maybe", "line 2: It is neither true nor false, as: dark = true"),
+        ("logo = none.png", "There is no none.png beside the event that can be read."),
+        ("logo = ../owls.png", "Name a file that lies beside the event"),
+        ('logo = "/etc/passwd"', "Name a file that lies beside the event"),
+        ("logo = ", "It is no line"),
+        ("logo = text.png", "text.png is no picture. There are PNG, JPEG, GIF, WebP and SVG."),
+        ("logo = large.png", "large.png has more than 200 kB. Make it smaller."),
+    ],
+)
 def test_what_can_not_be_read_is_left_out_and_said(file, tmp_path, line, fault):
     (tmp_path / "text.png").write_text("a text")
     (tmp_path / "large.png").write_bytes(PNG + bytes(200_000))
@@ -80,4 +83,6 @@ def test_contrast_is_that_of_level_aa_with_each_accent(five, accent):
 def test_the_default_accent_is_kept_where_it_can_be_read():
     assert palette(DARK, ACCENT)["accent-ink"] == ACCENT
     assert palette(LIGHT, "#b33a00")["accent-ink"] == "#b33a00"
-    assert len(LIGHT) == len(DARK) == 5 and all(re.fullmatch("#[0-9a-f]{6}", it) for it in palette(DARK, ACCENT).values())
+    assert len(LIGHT) == len(DARK) == 5 and all(
+        re.fullmatch("#[0-9a-f]{6}", it) for it in palette(DARK, ACCENT).values()
+    )

@@ -19,14 +19,17 @@ PLAYERS = [
 
 def offers(text):
     name, space, part = text.partition(" ")
-    return offers_of_players(part, PLAYERS) if space else offers_of_words(
-        name, ["drop", "standings", "start", "who"]
+    return (
+        offers_of_players(part, PLAYERS)
+        if space
+        else offers_of_words(name, ["drop", "standings", "start", "who"])
     )
 
 
 def test_a_part_of_a_name_offers_the_players_who_have_it():
     assert [(it.text, it.shown) for it in offers("who sa")] == [
-        ("Sara Bo", "Sara Bo (9)"), ("Bo Sato", "Bo Sato (7)")
+        ("Sara Bo", "Sara Bo (9)"),
+        ("Bo Sato", "Bo Sato (7)"),
     ]
     assert [it.text for it in offers("who ")] == ["Ana Lima", "Bo Sato", "Sara Bo", "Łukasz O’Brien"]
     assert [it.text for it in offers("who obrien luk")] == ["Łukasz O’Brien"]
@@ -38,12 +41,15 @@ def within_seconds(is_so):
         time.sleep(0.01)
 
 
-@pytest.mark.parametrize("typed, line", [
-    ("who sat", "who Bo Sato"),
-    ("who lim", "who Ana Lima"),
-    ("drop o'brien", "drop Łukasz O’Brien"),
-    ("stan", "standings"),
-])
+@pytest.mark.parametrize(
+    "typed, line",
+    [
+        ("who sat", "who Bo Sato"),
+        ("who lim", "who Ana Lima"),
+        ("drop o'brien", "drop Łukasz O’Brien"),
+        ("stan", "standings"),
+    ],
+)
 def test_the_tab_key_takes_what_the_menu_offers(typed, line):
     from companions.prompt.menus import Menus
     from prompt_toolkit.application import create_app_session

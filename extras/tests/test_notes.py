@@ -17,7 +17,10 @@ def test_a_table_has_one_note_at_a_time(notes):
     notes.put(3, AT_9, "+5 min")
     notes.put(3, AT_4, "Zoë is late")
     notes.put(3, AT_9, "+10 min")
-    assert open(notes.path).read() == "round 3 table 4 players 3 5 Zoë is late\nround 3 table 9 players 1 2 +10 min\n"
+    assert (
+        open(notes.path).read()
+        == "round 3 table 4 players 3 5 Zoë is late\nround 3 table 9 players 1 2 +10 min\n"
+    )
     assert notes.of_match(3, AT_9) == "+10 min"
     assert notes.of_round(3, [AT_9, AT_4]) == [Note(3, 4, 3, 5, "Zoë is late"), Note(3, 9, 1, 2, "+10 min")]
     notes.put(3, AT_9, "")
@@ -39,7 +42,13 @@ def test_what_is_no_note_is_passed_over(notes):
 
 @pytest.mark.parametrize(
     "typed, note",
-    [(" +5   min ", "+5 min"), ("", None), ("a" * MOST_LETTERS, "a" * MOST_LETTERS), ("a" * (MOST_LETTERS + 1), None), ("a\x1b[2J", None)],
+    [
+        (" +5   min ", "+5 min"),
+        ("", None),
+        ("a" * MOST_LETTERS, "a" * MOST_LETTERS),
+        ("a" * (MOST_LETTERS + 1), None),
+        ("a\x1b[2J", None),
+    ],
 )
 def test_a_note_as_it_is_typed(typed, note):
     assert note_of(typed) == note

@@ -15,7 +15,16 @@ from companions.languages import say_in
 from companions.look import Look
 from companions.plan import Plan
 from companions.sheets.colours import DARK, LIGHT, PRINTED
-from companions.sheets.page import Board, Foot, Playing, board_of, page_of, parts_of_board, playing_in, where_in
+from companions.sheets.page import (
+    Board,
+    Foot,
+    Playing,
+    board_of,
+    page_of,
+    parts_of_board,
+    playing_in,
+    where_in,
+)
 from companions.sheets.parts import (
     DEFAULT_PARTS,
     ROOM_BESIDE_A_CODE,
@@ -43,7 +52,9 @@ def board(event, clock=None):
 def test_standings_that_are_asked_for_before_a_round_is_complete(dice):
     event = evening(dice, 9, STARTED, 3, 0)
     event.pair(1, bytes(32))
-    (part,) = Page(page_of(Event(FromModel(event)), "Friday", 1, ("standings",), Board())).root.of("section", "part")
+    (part,) = Page(page_of(Event(FromModel(event)), "Friday", 1, ("standings",), Board())).root.of(
+        "section", "part"
+    )
     assert len(part.of("tr")) - len(part.of("tr", "top")) - len(part.of("tr", "heads")) == 9
 
 
@@ -71,7 +82,9 @@ def test_the_board_has_one_script_and_a_policy_that_names_it(dice):
     assert f"script-src 'sha256-{digest}';" in said.attributes["content"] and script.attributes == {}
     assert said.attributes["content"].startswith("default-src 'none'; ")
     sheets = Page(page_of(Event(FromModel(event)), "Friday", 1, ("tables", "names"))).root
-    assert sheets.of("script") == [] and [it for it in sheets.of("meta") if "http-equiv" in it.attributes] == []
+    assert (
+        sheets.of("script") == [] and [it for it in sheets.of("meta") if "http-equiv" in it.attributes] == []
+    )
 
 
 def test_sheets_and_board_are_in_the_language_of_the_room(dice):
@@ -80,20 +93,30 @@ def test_sheets_and_board_are_in_the_language_of_the_room(dice):
     number, german = len(event.stored), say_in("de")
     kinds = ("tables", "names", "slips", "standings", "seats")
     root = Page(page_of(read, "Freitag", number, kinds, look=look)).root
-    assert root.of("html")[0].attributes["lang"] == "de" and root.of("title")[0].text() == f"Freitag, Runde {number}"
+    assert (
+        root.of("html")[0].attributes["lang"] == "de"
+        and root.of("title")[0].text() == f"Freitag, Runde {number}"
+    )
     what = [it.text() for it in root.of("span", "what")]
     assert what[:2] == [f"Runde {number}, nach Tischen", f"Runde {number}, nach Namen"]
     assert {"Tisch", "Gegner", "Platz", "S-N-U", "Nr"} <= {it.text() for it in root.of("th")}
     assert {it.text() for it in root.of("span", "signature")} <= {"Unterschrift"}
     words = {it.text().split()[0] for it in root.of("span", "round")}
     assert words <= {"Runde"} and all(it.text().startswith("gedruckt ") for it in root.of("span", "made"))
-    board = page_of(read, "Freitag", number, parts_of_board(read), board_of(read, number, None, None, german), look=look)
+    board = page_of(
+        read, "Freitag", number, parts_of_board(read), board_of(read, number, None, None, german), look=look
+    )
     root = Page(board).root
     assert root.one("p", "playing").startswith(("Fertige Tische: ", "Alle Ergebnisse sind da."))
     assert "Paarungen nach Nachnamen" in [it.text() for it in root.of("p", "label")]
     ended = Event(FromModel(evening(dice, 24, ENDED, 3, 8)))
     root = Page(page_of(ended, "Freitag", 3, ("bracket", "final", "champion"), look=look)).root
-    assert [it.text() for it in root.of("text", "stage")] == ["Viertelfinale", "Halbfinale", "Finale", "Sieger"]
+    assert [it.text() for it in root.of("text", "stage")] == [
+        "Viertelfinale",
+        "Halbfinale",
+        "Finale",
+        "Sieger",
+    ]
     assert root.one("p", "how").startswith("gewann das Finale ")
     board = page_of(ended, "Freitag", 3, ("champion",), Board(), look=look)
     assert Page(board).root.one("p", "honour") == "Sieger"
@@ -130,7 +153,11 @@ def test_rows_stand_close_where_they_fit_one_page_so(count, is_so):
 def test_the_band_says_which_round_is_shown(dice):
     played = Event(FromModel(evening(dice, 11, ENDED, 3, 4)))
     played.plan = Plan("Friday", 3, 4)
-    assert [where_in(played, number, ENGLISH) for number in (1, 2, 3)] == ["Round 1 of 3", "Round 2 of 3", "Playoff"]
+    assert [where_in(played, number, ENGLISH) for number in (1, 2, 3)] == [
+        "Round 1 of 3",
+        "Round 2 of 3",
+        "Playoff",
+    ]
     before = Event(FromModel(evening(dice, 11, ENROLLING, 3, 4)))
     assert where_in(before, 0, ENGLISH) == ""
     # the plan can't be read
@@ -182,7 +209,10 @@ def test_the_board_says_how_many_tables_have_finished(dice):
         due = Playing(len(tables) - len(still), still) if newest else None
         assert playing_in(Event(FromModel(event))) == due
     many = tuple(range(1, 32))
-    texts = [Playing(*it).shown(ENGLISH) for it in ((0, (1, 2, 3)), (1, (2,)), (8, (2, 4, 5, 6, 9)), (3, ()), (9, many))]
+    texts = [
+        Playing(*it).shown(ENGLISH)
+        for it in ((0, (1, 2, 3)), (1, (2,)), (8, (2, 4, 5, 6, 9)), (3, ()), (9, many))
+    ]
     assert texts == [
         "Tables finished: 0 of 3. Still playing: 1-3",
         "Tables finished: 1 of 2. Still playing: 2",
@@ -208,21 +238,28 @@ def test_the_foot_of_a_board(dice):
         assert address == f"Your table and your score on your phone: {how}"
     # nothing stands there without a round and without phones
     before = Event(FromModel(evening(dice, 8, ENROLLING, 3, 0)))
-    assert Page(page_of(before, "Friday", 0, parts_of_board(before), Board(foot=Foot()))).root.of("footer") == []
+    assert (
+        Page(page_of(before, "Friday", 0, parts_of_board(before), Board(foot=Foot()))).root.of("footer") == []
+    )
 
 
 def test_a_board_says_beneath_its_parts_how_the_round_was_drawn(dice, tmp_path):
     """Once, and not above the names, where nobody looks for it. On paper it stands above each list."""
     event = evening(dice, 9, STARTED, 3, 0)
     event.pair(1, bytes(32))
-    chosen, read = "The scorekeeper could steer who meets whom: no public draw", Event(FromModel(event), f"{tmp_path}/e.event")
+    chosen, read = "The scorekeeper could steer who meets whom: no public draw", Event(
+        FromModel(event), f"{tmp_path}/e.event"
+    )
     text = page_of(read, "Friday", 1, ("names", "tables"), board_of(read, 1, None, None, ENGLISH))
     (foot,) = Page(text).root.of("footer")
     assert foot.one("p", "drawn") == chosen and text.count(chosen) == 1
     assert page_of(read, "Friday", 1, ("names", "tables")).count(chosen) == 2
     # an older round has nothing else there
     older = replace(board_of(read, 1, None, None, ENGLISH), foot=Foot(drawn=chosen))
-    assert Page(page_of(read, "Friday", 1, ("names",), older)).root.of("footer")[0].text().split() == chosen.split()
+    assert (
+        Page(page_of(read, "Friday", 1, ("names",), older)).root.of("footer")[0].text().split()
+        == chosen.split()
+    )
 
 
 def test_who_has_won_stands_out_by_table(dice):
@@ -297,7 +334,8 @@ def test_each_player_has_a_strip(dice):
     strips = page.root.of("article", "strip")
     found = {node.one("span", "no"): (node.one("span", "name"), node.one("span", "code")) for node in strips}
     assert found == {
-        f"No {number}": (f"Shown {number}", shown_code(secret.link_code(it))) for number, it in read.enrolled.items()
+        f"No {number}": (f"Shown {number}", shown_code(secret.link_code(it)))
+        for number, it in read.enrolled.items()
     }
     assert all(f"192.168.1.10:8080/p/{number}/" in page.root.text() for number in read.enrolled)
     # none without an address, and none on a page that is made without naming them

@@ -31,7 +31,16 @@ from companions.score import Score
 from companions.sheets.making import Wanted, page_maker
 from contrasts import contrast
 from from_model import FromModel
-from scripts.clients.random_evenings import COMPLETE, ENDED, ENROLLING, HOSTILE, IN_PLAYOFF, OPEN, STARTED, evening
+from scripts.clients.random_evenings import (
+    COMPLETE,
+    ENDED,
+    ENROLLING,
+    HOSTILE,
+    IN_PLAYOFF,
+    OPEN,
+    STARTED,
+    evening,
+)
 from scripts.models import plain_page
 from scripts.models.plain_event import Event as Played
 
@@ -219,7 +228,12 @@ def test_pages_of_an_event_with_names_of_all_kinds(tmp_path, dice, way):
         [cell.text() for cell in row.of("td")] for row in room.ask("GET", "/standings").page().root.of("tr")
     ][1:]
     due = [
-        [rank, " ".join([shown, *[record] * bool(record), *["dropped"] * bool(is_out)]), points, " ".join(shares)]
+        [
+            rank,
+            " ".join([shown, *[record] * bool(record), *["dropped"] * bool(is_out)]),
+            points,
+            " ".join(shares),
+        ]
         for rank, _, shown, is_out, record, points, *shares in plain_page.ranks_due(event)
     ]
     assert rows == due
@@ -267,7 +281,12 @@ def test_somebody_is_found_by_what_a_phone_can_type(tmp_path):
     assert found("ann") == ["Anna Smith", "Lea Ann", "Paul Hoffmann"]
     page = room.ask("GET", "/pairings").page()
     assert [row.of("bdi")[0].text() for row in page.root.of("tr")[1:]] == [
-        "Anna Smith", "Lea Ann", "Łukasz O’Brien", "Øystein Æsa", "Paul Hoffmann", "Zoë Kim"
+        "Anna Smith",
+        "Lea Ann",
+        "Łukasz O’Brien",
+        "Øystein Æsa",
+        "Paul Hoffmann",
+        "Zoë Kim",
     ]
 
 
@@ -307,7 +326,9 @@ def test_the_board_is_the_page_of_the_sheets(room):
     secret = Secret(AT, bytes(32))
     keep_secret(room.file, secret)
     keep_clock(room.file, Clock(0, 50))
-    made = page_maker(Wanted(room.file, title="Friday", is_board=True))(Event(FromModel(room.event), room.file))
+    made = page_maker(Wanted(room.file, title="Friday", is_board=True))(
+        Event(FromModel(room.event), room.file)
+    )
     assert room.ask("GET", "/board").text.replace(" data-sent", "", 1) == made
 
 
@@ -334,15 +355,22 @@ def test_lists_are_made_once_for_each_picture(room, monkeypatch):
     assert room.ask("GET", "/pairings").text == "again"
 
 
-@pytest.mark.parametrize("accepted, is_taken", [("gzip", True), ("br, gzip;q=0.5", True), ("gzip;q=0", False), ("", False)])
+@pytest.mark.parametrize(
+    "accepted, is_taken", [("gzip", True), ("br, gzip;q=0.5", True), ("gzip;q=0", False), ("", False)]
+)
 def test_lists_are_compressed_for_those_who_take_it(room, accepted, is_taken):
     plain = room.ask("GET", "/board").text
     came = []
     environ = {"REQUEST_METHOD": "GET", "PATH_INFO": "/board", "QUERY_STRING": "", "HTTP_HOST": HOST}
     body = b"".join(room.site({**environ, "HTTP_ACCEPT_ENCODING": accepted}, lambda *head: came.append(head)))
     headers = dict(came[0][1])
-    assert (headers.get("Content-Encoding") == "gzip", headers["Content-Length"]) == (is_taken, str(len(body)))
-    assert (gzip.decompress(body) if is_taken else body).decode() == plain and headers["Vary"] == "Accept-Encoding"
+    assert (headers.get("Content-Encoding") == "gzip", headers["Content-Length"]) == (
+        is_taken,
+        str(len(body)),
+    )
+    assert (gzip.decompress(body) if is_taken else body).decode() == plain and headers[
+        "Vary"
+    ] == "Accept-Encoding"
 
 
 def test_a_long_page_is_handed_to_the_server_as_a_file(room):
@@ -362,7 +390,16 @@ def test_one_address_asks_for_the_board_now_and_then(room, monkeypatch):
 
 def test_each_page_has_a_title_of_its_own(room):
     target = room.target(1)
-    pages = ["/", "/pairings", "/standings", target, f"{target}?s=2-0-0", room.target(2), "/none", f"{target}?s=9"]
+    pages = [
+        "/",
+        "/pairings",
+        "/standings",
+        target,
+        f"{target}?s=2-0-0",
+        room.target(2),
+        "/none",
+        f"{target}?s=9",
+    ]
     titles = [room.ask("GET", page).page().root.of("title")[0].text() for page in pages]
     room.hand_in(1, "2-0-0")
     titles.append(room.ask("GET", target).page().root.of("title")[0].text())
@@ -456,16 +493,24 @@ def test_a_seat_that_goes_back_sees_that_its_score_waits(tmp_path, dice):
 @pytest.mark.parametrize("is_own", [False, True])
 def test_one_tap_tells_the_scorekeeper_that_it_is_wrong(room, is_own):
     match = room.cache.now.match(1, 1)
-    page, target = (room.link(match.first), room.place(match.first)) if is_own else (room.target(1), room.target(1))
+    page, target = (
+        (room.link(match.first), room.place(match.first)) if is_own else (room.target(1), room.target(1))
+    )
     room.hand_in(1, "2-1-0")
-    buttons = [node for node in room.ask("GET", page).page().root.of("button") if node.attributes.get("name") == "wrong"]
+    buttons = [
+        node
+        for node in room.ask("GET", page).page().root.of("button")
+        if node.attributes.get("name") == "wrong"
+    ]
     assert [node.text() for node in buttons] == [ENGLISH["this_is_wrong"]]
     reply = room.ask("POST", target, "wrong=1")
     assert (reply.status, reply.location) == (303, f"{target}?wrong=1")
     told = room.ask("GET", reply.location)
     assert ENGLISH["go_there"] in told.text and told.text.count('name="s"') == 6
     assert room.queue.asked == [(1, 1, (2, 1, 0))]
-    assert [(it.outcome, it.score, it.stored) for it in room.reports.all[1:]] == [(WRONG, (2, 1, 0), (2, 1, 0))]
+    assert [(it.outcome, it.score, it.stored) for it in room.reports.all[1:]] == [
+        (WRONG, (2, 1, 0), (2, 1, 0))
+    ]
     assert "fix 1 1 X Y" in room.desk_page().text and "wrong (" in room.desk_page().text
     check_page(room.desk_page())
     # which one is right may be said too
@@ -499,9 +544,7 @@ def test_two_scores_need_what_is_stored(room):
 
 
 def test_what_the_program_refuses(room):
-    room.queue.answers.update(
-        {1: Answer(refused=13), 2: Answer(refused=6), 3: Answer(refused=23), 4: NotNow}
-    )
+    room.queue.answers.update({1: Answer(refused=13), 2: Answer(refused=6), 3: Answer(refused=23), 4: NotNow})
     reply = room.hand_in(1, "2-2-0")
     assert reply.status == 409 and ENGLISH["no_match_ends_so"] in check_page(reply).root.text()
     for table, key in ((2, "rounds_are_over"), (3, "not_taken")):
@@ -527,7 +570,9 @@ def going_on(reply):
     page = check_page(reply)
     told = [form.of("bdi")[0].text() for form in page.root.of("form", "home")]
     return told, [
-        button.attributes["value"] for button in page.root.of("button") if button.attributes.get("name") == "stays"
+        button.attributes["value"]
+        for button in page.root.of("button")
+        if button.attributes.get("name") == "stays"
     ]
 
 
@@ -724,14 +769,21 @@ def test_a_link_shows_the_own_table_and_both_records(tmp_path):
         assert ENGLISH["table_number"].format(number=match.place) in page.root.text()
         won = [first for first, _, _ in event.stored[0]]
         shown = " ".join(page.root.one("p", "pair").split())
-        due = [f"{event.names[it - 1]} {'1-0, 3 pts' if it in won else '0-1, 0 pts'}" for it in (number, other)]
+        due = [
+            f"{event.names[it - 1]} {'1-0, 3 pts' if it in won else '0-1, 0 pts'}" for it in (number, other)
+        ]
         assert shown == f"{due[0]} against {due[1]}"
         # the player's matches, and the standings around, as the plain reading has them
         first_round = next(it for it in event.stored[0] if number in it[:2])
         met = event.names[first_round[1 if first_round[0] == number else 0] - 1]
-        assert rows_of_table(page, 0) == [["1", met, "2-1" if number in won else "1-2", "3" if number in won else "0"]]
+        assert rows_of_table(page, 0) == [
+            ["1", met, "2-1" if number in won else "1-2", "3" if number in won else "0"]
+        ]
         ranks = plain_page.ranks_due(event)
-        standings = [[rank, f"{shown} {record}", points, " ".join(shares)] for rank, _, shown, _, record, points, *shares in ranks]
+        standings = [
+            [rank, f"{shown} {record}", points, " ".join(shares)]
+            for rank, _, shown, _, record, points, *shares in ranks
+        ]
         at = next(at for at, line in enumerate(ranks) if line[1] == str(number))
         assert rows_of_table(page, 1) == standings[max(0, at - 2) : at + 3]
 
@@ -773,9 +825,16 @@ def test_links_of_others_and_wrong_ones(room):
         f"/p/{match.first}/{Secret(AT, b'k' * 32).link_code(room.cache.now.event.enrolled[match.first])}",
         f"/p/{match.second}/{code}{place}",
     ):
-        assert {room.ask(how, target, "s=2-0-0" if how == "POST" else "").status for how in ("GET", "POST")} == {404}
+        assert {
+            room.ask(how, target, "s=2-0-0" if how == "POST" else "").status for how in ("GET", "POST")
+        } == {404}
     # nobody hands in for a table at which others sit, nor for one of a pairing that is no more
-    for wrong in (f"1-2-{other.first}-{other.second}", f"1-1-{match.second}-{match.first}", "2-1-1-2", f"1-2-{match.first}-{match.second}"):
+    for wrong in (
+        f"1-2-{other.first}-{other.second}",
+        f"1-1-{match.second}-{match.first}",
+        "2-1-1-2",
+        f"1-2-{match.first}-{match.second}",
+    ):
         reply = room.ask("POST", f"{mine}/{wrong}", "s=2-0-0")
         assert (reply.status, reply.location) == (303, f"{mine}?moved=1")
     assert room.queue.asked == []
@@ -838,7 +897,8 @@ def test_an_old_slip_shows_both_new_tables(tmp_path, dice):
     rows = [[cell.text() for cell in row.of("td")] for row in check_page(reply).root.of("tr")]
     players, now = room.cache.now.players, room.cache.now.matches
     due = [
-        [str(now[it].place), players[it].name, players[now[it].opponent_of(it)].name] for it in (match.first, match.second)
+        [str(now[it].place), players[it].name, players[now[it].opponent_of(it)].name]
+        for it in (match.first, match.second)
     ]
     assert rows == due and "refresh" in reply.text
 
@@ -877,8 +937,13 @@ def test_in_the_playoff_pages_show_the_playoff(tmp_path, dice, way):
     first, second, score = event.stages[-1][0]
     page = check_page(room.ask("GET", f"/?q={quote(names[first - 1])}"))
     where = ("Quarterfinal 1", "Semifinal 1", "Final")[stage - 1]
-    assert [where, names[first - 1], names[second - 1]] in [[it.text() for it in row.of("td")] for row in page.root.of("tr")]
-    assert page.root.of("input", None)[0].attributes["name"] == "q" and ENGLISH["rounds_are_over"] in page.root.text()
+    assert [where, names[first - 1], names[second - 1]] in [
+        [it.text() for it in row.of("td")] for row in page.root.of("tr")
+    ]
+    assert (
+        page.root.of("input", None)[0].attributes["name"] == "q"
+        and ENGLISH["rounds_are_over"] in page.root.text()
+    )
 
 
 def test_own_pages_say_how_it_stands_in_the_playoff(tmp_path):
@@ -943,7 +1008,11 @@ def test_a_judge_is_called_and_called_off(room):
     assert "A judge is called" not in room.desk_page().text
     # nothing of it is a score, and nobody else calls by the code of the table, or otherwise
     assert room.queue.asked == [] and not room.desk_page().text.count("0-0")
-    for target, body in ((room.target(1), "judge=calls"), (room.place(match.first), "judge=x"), (room.place(match.first), "judge=judged")):
+    for target, body in (
+        (room.target(1), "judge=calls"),
+        (room.place(match.first), "judge=x"),
+        (room.place(match.first), "judge=judged"),
+    ):
         assert room.ask("POST", target, body).status == 400
 
 
@@ -981,7 +1050,10 @@ def test_a_name_is_entered_while_that_is_on(room):
     assert [entry.name for entry in room.site.entries.all()] == ["Zoë <b> Kim"]
     # nothing of it goes to the program, and no page shows it
     assert room.queue.asked == []
-    assert not any("Kim" in room.ask("GET", page).text for page in ("/", "/?q=kim", "/pairings", "/standings", "/board", "/enter"))
+    assert not any(
+        "Kim" in room.ask("GET", page).text
+        for page in ("/", "/?q=kim", "/pairings", "/standings", "/board", "/enter")
+    )
 
 
 def test_what_is_no_name_is_told(room):
@@ -996,7 +1068,9 @@ def test_what_is_no_name_is_told(room):
 def test_one_address_enters_some_names(room, monkeypatch):
     monkeypatch.setattr(time, "monotonic", lambda: 1000.0)
     room.site.entries.begin()
-    assert [room.ask("POST", "/enter", f"name=Ana+{number}").status for number in range(7)] == [303] * 5 + [429] * 2
+    assert [room.ask("POST", "/enter", f"name=Ana+{number}").status for number in range(7)] == [303] * 5 + [
+        429
+    ] * 2
     assert room.ask("POST", "/enter", "name=Bo", REMOTE_ADDR="192.168.1.78").status == 303
     assert len(room.site.entries.all()) == 6
 
@@ -1037,9 +1111,7 @@ def test_codes_of_other_tables_rounds_and_keys(room):
         for target in wrong
         for how in ("GET", "POST")
     }
-    assert {
-        key: status for key, status in statuses.items() if status != 404
-    } == {} and room.queue.asked == []
+    assert {key: status for key, status in statuses.items() if status != 404} == {} and room.queue.asked == []
 
 
 def test_codes_as_they_are_typed(room):
@@ -1174,7 +1246,11 @@ def test_the_scorekeepers_page_is_asked_by_this_machine_alone(room):
     assert room.desk_page().status == 200
     for host in (HOST, "rebound.example:8081", "localhost", ""):
         refused = room.ask("GET", "/", pages=desk, HTTP_HOST=host)
-        assert (refused.status, "It is http://127.0.0.1:8081/" in refused.text, AT in refused.text) == (421, True, False)
+        assert (refused.status, "It is http://127.0.0.1:8081/" in refused.text, AT in refused.text) == (
+            421,
+            True,
+            False,
+        )
     for method, target in (("POST", "/"), ("GET", "/board"), ("GET", room.target(1))):
         assert room.ask(method, target, "s=2-0-0", pages=desk, HTTP_HOST="127.0.0.1:8081").status == 404
     assert room.desk_page().page().root.of("form") == []

@@ -33,10 +33,13 @@ def test_what_is_no_event_has_no_plan(tmp_path, data):
     assert plan_of(f"{tmp_path}/none.event", Turn()) is None
 
 
-@pytest.mark.parametrize("plan, number, shown", [
-    (Plan("E", 6, 8), 3, "Round 3 of 6, cut to 8"),
-    (Plan("E", 6, 0), 0, "6 rounds, no cut"),
-    (Plan("E", 1, 2), 0, "1 round, cut to 2"),
-])
+@pytest.mark.parametrize(
+    "plan, number, shown",
+    [
+        (Plan("E", 6, 8), 3, "Round 3 of 6, cut to 8"),
+        (Plan("E", 6, 0), 0, "6 rounds, no cut"),
+        (Plan("E", 1, 2), 0, "1 round, cut to 2"),
+    ],
+)
 def test_how_it_is_shown(plan, number, shown):
     assert plan.shown(number) == shown

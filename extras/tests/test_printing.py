@@ -59,16 +59,19 @@ def test_without_a_word_it_is_all_that_there_is(tmp_path, dice, way):
     assert page.root.of("title")[0].text().startswith("Friday <Night>")
 
 
-@pytest.mark.parametrize("rest, parts", [
-    ("slips", ["slips"]),
-    ("Slips", ["slips"]),
-    ("slip", ["slips"]),
-    ("names, standings", ["names", "standings"]),
-    ("standings names", ["standings", "names"]),
-    ("pairings", ["tables", "names"]),
-    ("seats", ["seats"]),
-    ("all", ["tables", "names", "slips"]),
-])
+@pytest.mark.parametrize(
+    "rest, parts",
+    [
+        ("slips", ["slips"]),
+        ("Slips", ["slips"]),
+        ("slip", ["slips"]),
+        ("names, standings", ["names", "standings"]),
+        ("standings names", ["standings", "names"]),
+        ("pairings", ["tables", "names"]),
+        ("seats", ["seats"]),
+        ("all", ["tables", "names", "slips"]),
+    ],
+)
 def test_parts_that_are_named(tmp_path, dice, rest, parts):
     event = evening(dice, 11, STARTED, 3, 0)
     event.pair(1, bytes(32))
@@ -96,22 +99,29 @@ def test_the_final_ranking(tmp_path, dice):
     assert shown_rows(part) == final_rows(event)
 
 
-@pytest.mark.parametrize("way, rest, said", [
-    (ENROLLING, "tables", "No round is paired yet"),
-    (ENROLLING, "names", "print players"),
-    (ENROLLING, "standings", "no standings"),
-    (COMPLETE, "slips", "No table is open"),
-    (COMPLETE, "bracket", "Next: cut"),
-    (COMPLETE, "final", "There is no champion yet. Until then: print standings"),
-    (COMPLETE, "players", "print names"),
-    (OPEN, "badges", "There is no badges to print. As: print slips. There are\n"
-                     "players, draw, tables, names, slips, standings, bracket, final, seats, links, champion."),
-    (OPEN, "tables 4", "as: print slips 4 17"),
-    (OPEN, "4", "as: print slips 4 17"),
-    (OPEN, "names 4", "as: print slips 4 17"),
-    (OPEN, "links", "A player's own page needs the phones' address."),
-    (OPEN, "slips 9999", "There is no 9999"),
-])
+@pytest.mark.parametrize(
+    "way, rest, said",
+    [
+        (ENROLLING, "tables", "No round is paired yet"),
+        (ENROLLING, "names", "print players"),
+        (ENROLLING, "standings", "no standings"),
+        (COMPLETE, "slips", "No table is open"),
+        (COMPLETE, "bracket", "Next: cut"),
+        (COMPLETE, "final", "There is no champion yet. Until then: print standings"),
+        (COMPLETE, "players", "print names"),
+        (
+            OPEN,
+            "badges",
+            "There is no badges to print. As: print slips. There are\n"
+            "players, draw, tables, names, slips, standings, bracket, final, seats, links, champion.",
+        ),
+        (OPEN, "tables 4", "as: print slips 4 17"),
+        (OPEN, "4", "as: print slips 4 17"),
+        (OPEN, "names 4", "as: print slips 4 17"),
+        (OPEN, "links", "A player's own page needs the phones' address."),
+        (OPEN, "slips 9999", "There is no 9999"),
+    ],
+)
 def test_what_is_declined_leaves_the_page_before(tmp_path, dice, way, rest, said):
     session = Session(tmp_path, evening(dice, 9, way, 3, 4))
     page = f"{session.file}.sheets.html"

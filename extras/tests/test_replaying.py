@@ -37,7 +37,9 @@ def test_a_drop_is_taken_back():
 
 def test_who_came_after_a_player_who_is_removed_has_a_number_less():
     assert Change(removed=2).players(PLAYERS) == {
-        1: Player(1, "P1", False), 2: Player(2, "P3", True), 3: Player(3, "P4", False)
+        1: Player(1, "P1", False),
+        2: Player(2, "P3", True),
+        3: Player(3, "P4", False),
     }
 
 
@@ -52,9 +54,9 @@ def test_a_score_of_the_playoff_is_taken_back():
 
 
 def test_the_name_of_the_copy_from_before():
-    assert [it.name for it in (Change(rounds=3), Change(back_in=7), Change(removed=38), Change(slot=(1, 2)))] == [
-        "plan", "undrop-7", "remove-38", "unplay-1-2"
-    ]
+    assert [
+        it.name for it in (Change(rounds=3), Change(back_in=7), Change(removed=38), Change(slot=(1, 2)))
+    ] == ["plan", "undrop-7", "remove-38", "unplay-1-2"]
     assert Change(renamed=(4, "Bo")).name == "rename-4"
 
 
@@ -68,7 +70,14 @@ def test_what_may_not_work_out():
     assert Plan("E", 5, 0).doubts(8) == ["With 8 players, rounds after the 4th may not be found."]
     assert Plan("E", 4, 8).doubts(8) == ["If some of the 8 players leave, there are too few for a cut to 8."]
     assert Plan("E", 6, 8).doubts(37) == []
-    assert [ordinal(number) for number in (1, 2, 3, 4, 11, 12)] == ["1st", "2nd", "3rd", "4th", "11th", "12th"]
+    assert [ordinal(number) for number in (1, 2, 3, 4, 11, 12)] == [
+        "1st",
+        "2nd",
+        "3rd",
+        "4th",
+        "11th",
+        "12th",
+    ]
 
 
 def test_the_greatest_cut_for_which_there_are_enough():

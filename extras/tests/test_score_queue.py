@@ -164,7 +164,9 @@ class Held(Program):
         return super().ask(*words)
 
 
-@pytest.mark.parametrize("phone, stored", [("10.0.0.7 1", "0-2-0"), ("10.0.0.7 2", "2-0-0"), ("10.0.0.8 1", "2-0-0")])
+@pytest.mark.parametrize(
+    "phone, stored", [("10.0.0.7 1", "0-2-0"), ("10.0.0.7 2", "2-0-0"), ("10.0.0.8 1", "2-0-0")]
+)
 def test_a_phone_replaces_what_it_said_while_that_still_waits(kept, within_seconds, phone, stored):
     """And nobody else does: then the first one goes first, as ever."""
     kept.source, told = Held(), {}
@@ -176,7 +178,9 @@ def test_a_phone_replaces_what_it_said_while_that_still_waits(kept, within_secon
             told[score] = None
 
     kept.seats.at = lambda *_: (1, 2)
-    threads = [threading.Thread(target=hand_in, args=it) for it in (("2-0-0", "10.0.0.7 1"), ("0-2-0", phone))]
+    threads = [
+        threading.Thread(target=hand_in, args=it) for it in (("2-0-0", "10.0.0.7 1"), ("0-2-0", phone))
+    ]
     threads[0].start()
     assert within_seconds(lambda: kept.source.asked)
     threads[1].start()

@@ -17,7 +17,9 @@ def file(tmp_path):
 
 
 def all_below(folder):
-    return sorted(os.path.relpath(os.path.join(at, name), folder) for at, _, names in os.walk(folder) for name in names)
+    return sorted(
+        os.path.relpath(os.path.join(at, name), folder) for at, _, names in os.walk(folder) for name in names
+    )
 
 
 def test_no_place_no_copy(file):
@@ -76,7 +78,9 @@ def test_many_copies_are_thinned(file):
     copies.thin()
     left = [copy.what for copy in copies.all()]
     assert len(left) == 30 + 40 + 2
-    assert [what for what in left if what.startswith("before-pair")] == [f"before-pair-{it}" for it in range(1, 31)]
+    assert [what for what in left if what.startswith("before-pair")] == [
+        f"before-pair-{it}" for it in range(1, 31)
+    ]
     assert {"before-cut", "copy", "before-drop-30", "before-play-1-11"} <= {*left}
     assert "before-drop-10" not in left
     copies.thin()

@@ -50,20 +50,23 @@ def test_a_device_stays_one():
     assert stat.S_ISCHR(os.stat("/dev/null").st_mode)
 
 
-@pytest.mark.parametrize("name, is_taken", [
-    ("friday.event", False),
-    ("./friday.event", False),
-    ("link", False),
-    ("friday.event-wal", False),
-    ("friday.event.keys", False),
-    ("friday.event.copies", False),
-    ("saturday.event", False),
-    ("friday.event.sheets.html", True),
-    ("friday.html", True),
-    ("friday", True),
-    ("sub/new.html", True),
-    ("pipe", True),
-])
+@pytest.mark.parametrize(
+    "name, is_taken",
+    [
+        ("friday.event", False),
+        ("./friday.event", False),
+        ("link", False),
+        ("friday.event-wal", False),
+        ("friday.event.keys", False),
+        ("friday.event.copies", False),
+        ("saturday.event", False),
+        ("friday.event.sheets.html", True),
+        ("friday.html", True),
+        ("friday", True),
+        ("sub/new.html", True),
+        ("pipe", True),
+    ],
+)
 def test_no_page_takes_the_place_of_an_event(tmp_path, name, is_taken):
     file = f"{tmp_path}/friday.event"
     for other in (file, f"{tmp_path}/saturday.event"):

@@ -33,12 +33,18 @@ def test_texts_of_the_program_get_the_names(dice):
     event = evening(dice, 9, ENDED, 3, 4, True)
     enrolled = FromModel(event).players()
     texts = lambda: [
-        event.players(), event.standings(), event.bracket(), *(event.slips(number) for number in (1, 2, 3))
+        event.players(),
+        event.standings(),
+        event.bracket(),
+        *(event.slips(number) for number in (1, 2, 3)),
     ]
     joined = lambda lines: "".join(f"{line}\n" for line in lines)
     before = [joined(lines) for lines in texts()]
     changed = [
-        event.stages[-1][0][0], event.stored[0][0][0], event.stored[0][-1][0], *event.stages[-1][0][:2]
+        event.stages[-1][0][0],
+        event.stored[0][0][0],
+        event.stored[0][-1][0],
+        *event.stages[-1][0][:2],
     ]
     for number in changed:
         event.names[number - 1] = f"N{number} - \u5927"
@@ -48,13 +54,16 @@ def test_texts_of_the_program_get_the_names(dice):
     ]
 
 
-@pytest.mark.parametrize("one, other, is_alike", [
-    ("Zo\u00eb", "Zoe\u0308", True),
-    ("ana lima", "Ana Lima", True),
-    ("STRASSE", "stra\u00dfe", True),
-    ("Zoe", "Zo\u00eb", False),
-    ("Ana", "Anna", False),
-])
+@pytest.mark.parametrize(
+    "one, other, is_alike",
+    [
+        ("Zo\u00eb", "Zoe\u0308", True),
+        ("ana lima", "Ana Lima", True),
+        ("STRASSE", "stra\u00dfe", True),
+        ("Zoe", "Zo\u00eb", False),
+        ("Ana", "Anna", False),
+    ],
+)
 def test_names_that_look_alike(one, other, is_alike):
     assert (compared(one) == compared(other)) == is_alike
 

@@ -51,7 +51,9 @@ def test_results_drops_and_players_come_as_lines_to_type():
 
 def test_a_round_that_was_paired_since_comes_with_its_key():
     both = ((1, (2, 0, 0)), (2, (2, 0, 0)))
-    lines = came_since(played(results=both, rounds=2), played(results=both), OfRounds({2: "ab" * 32}), NOT_DRAWN)
+    lines = came_since(
+        played(results=both, rounds=2), played(results=both), OfRounds({2: "ab" * 32}), NOT_DRAWN
+    )
     assert lines == ["Round 2 was paired since. Its key, for: pair again\n  " + "ab" * 32]
 
 
@@ -87,7 +89,8 @@ def cut_of_four(scores):
 def test_the_cut_and_scores_of_the_playoff_come_as_lines_to_type():
     lines = came_since(cut_of_four([(1, 1, (2, 1, 0))]), cut_of_four(None), OfRounds({}), NOT_DRAWN)
     assert [line for line in lines if "cut" in line or "play " in line] == [
-        "The playoff was begun since. To begin it again: cut", "  play final 2 1  P1 (1) 2-1-0 P4 (4)"
+        "The playoff was begun since. To begin it again: cut",
+        "  play final 2 1  P1 (1) 2-1-0 P4 (4)",
     ]
     lines = came_since(cut_of_four([(1, 1, (2, 1, 0))]), cut_of_four([]), OfRounds({}), NOT_DRAWN)
     assert [line for line in lines if line.startswith("  ")] == ["  play final 2 1  P1 (1) 2-1-0 P4 (4)"]
@@ -117,11 +120,15 @@ def test_a_round_that_was_drawn_comes_with_its_number(tmp_path):
     draws = Draws(f"{tmp_path}/e.event")
     draws.keep_rule(rule_of("each 4d20"))
     draws.keep_number(2, Kept("3 8 11 17"))
-    before, now = played(results=((1, (2, 0, 0)), (2, (2, 0, 0))), rounds=2), played(results=((1, (2, 0, 0)), (2, (2, 0, 0))))
+    before, now = played(results=((1, (2, 0, 0)), (2, (2, 0, 0))), rounds=2), played(
+        results=((1, (2, 0, 0)), (2, (2, 0, 0)))
+    )
     lines = came_since(before, now, OfRounds({2: "ab" * 32}), draws)
     assert lines[0] == "Round 2 was paired since. To pair it by its number, 3 8 11 17: pair"
     draws.keep_rule(rule_of("off"))
-    assert came_since(before, now, OfRounds({2: "ab" * 32}), draws)[0].startswith("Round 2 was paired since. Its key")
+    assert came_since(before, now, OfRounds({2: "ab" * 32}), draws)[0].startswith(
+        "Round 2 was paired since. Its key"
+    )
 
 
 def test_what_a_copy_takes_back_is_counted():
@@ -131,4 +138,7 @@ def test_what_a_copy_takes_back_is_counted():
     assert counted_since(now, copy) == "the pairing of round 2, 2 scores, 2 players who came, 1 drop"
     assert counted_since(copy, now, with_other_scores=False) == ""
     assert counted_since(copy, copy) == ""
-    assert counted_since(cut_of_four([(1, 1, (2, 1, 0))]), cut_of_four(None)) == "the cut, 1 score of the playoff"
+    assert (
+        counted_since(cut_of_four([(1, 1, (2, 1, 0))]), cut_of_four(None))
+        == "the cut, 1 score of the playoff"
+    )

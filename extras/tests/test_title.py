@@ -36,12 +36,15 @@ def test_a_copy_of_the_one_file_has_its_heading(tmp_path):
     assert os.listdir(f"{tmp_path}/stick") == ["copy.event"]
 
 
-@pytest.mark.parametrize("name, shown", [
-    ("friday.event", "friday"),
-    ("friday", "friday"),
-    (".event", ".event"),
-    ("a\udcff.event", "a?"),
-])
+@pytest.mark.parametrize(
+    "name, shown",
+    [
+        ("friday.event", "friday"),
+        ("friday", "friday"),
+        (".event", ".event"),
+        ("a\udcff.event", "a?"),
+    ],
+)
 def test_where_there_is_no_name_it_is_the_file_s(tmp_path, name, shown):
     file = f"{tmp_path}/{name}"
     assert file_name(file) == title_of(file, Turn(file)) == shown

@@ -52,7 +52,11 @@ def test_the_prompt_tells_what_is_new():
     served = Told((), True, True)
     one, two = Told(("a",), True, True), Told(("a", "b"), True, True)
     assert troubles_told(Told(), served, "e") == []
-    assert (troubles_told(served, one, "e"), troubles_told(one, two, "e"), troubles_told(two, two, "e")) == (["a"], ["b"], [])
+    assert (troubles_told(served, one, "e"), troubles_told(one, two, "e"), troubles_told(two, two, "e")) == (
+        ["a"],
+        ["b"],
+        [],
+    )
     assert troubles_told(one, served, "e") == ["Phones go on: what was wrong is over."]
     assert all(len(line) <= 80 for line in troubles_told(served, Told(("word " * 40,), True, True), "e"))
 
@@ -65,7 +69,11 @@ def test_the_prompt_tells_that_phones_are_served_no_more():
     ]
     assert troubles_told(served, Told(("a",), True, False), "e")[0] == "event-phones has ended."
     # it is told once, and not where it ended by Ctrl-C, or before the prompt began
-    assert (troubles_told(ended, ended, "e"), troubles_told(served, Told(), "e"), troubles_told(Told(), ended, "e")) == ([], [], [])
+    assert (
+        troubles_told(ended, ended, "e"),
+        troubles_told(served, Told(), "e"),
+        troubles_told(Told(), ended, "e"),
+    ) == ([], [], [])
 
 
 # ---- who tells
@@ -98,7 +106,9 @@ def test_the_thread_that_reads_ends_by_no_fault(file, monkeypatch, within_second
     cache.running.end("")
 
 
-@pytest.mark.parametrize("work, why", [(lambda: 1 / 0, "ZeroDivisionError: division by zero"), (lambda: None, "it ended")])
+@pytest.mark.parametrize(
+    "work, why", [(lambda: 1 / 0, "ZeroDivisionError: division by zero"), (lambda: None, "it ended")]
+)
 def test_a_thread_that_ends_ends_all_and_says_why(work, why):
     running = Running()
     running.begin("hands in scores", work)
@@ -129,7 +139,9 @@ def test_scores_that_are_not_stored_are_told_until_one_is(file, monkeypatch):
     # it is told before the phone gives up
     queue.source = Busy(lambda: told.extend(troubles.all()) or told)
     assert queue.report(1, 7, Score(2, 0)).is_taken
-    assert told[0].startswith("Scores from phones can't be stored, such as that of table 7: refused 25 Store.")
+    assert told[0].startswith(
+        "Scores from phones can't be stored, such as that of table 7: refused 25 Store."
+    )
     assert "`serve`" in told[0] and troubles.all() == []
 
 

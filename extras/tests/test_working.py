@@ -24,7 +24,9 @@ def three():
     plain.start()
     bye = (2, 0, 0)
     plain.stored = [
-        [[2, 1, (2, 0, 0)], [3, 0, bye]], [[2, 3, (2, 0, 0)], [1, 0, bye]], [[1, 3, (2, 0, 0)], [2, 0, bye]]
+        [[2, 1, (2, 0, 0)], [3, 0, bye]],
+        [[2, 3, (2, 0, 0)], [1, 0, bye]],
+        [[1, 3, (2, 0, 0)], [2, 0, bye]],
     ]
     return event_of(plain)
 
@@ -77,6 +79,9 @@ def test_a_percentage_is_rounded_half_up():
     from fractions import Fraction
 
     assert [percent(Fraction(*it)) for it in ((1, 3), (2, 3), (1, 80000), (1, 1))] == [
-        "33.33", "66.67", "0.00", "100.00"
+        "33.33",
+        "66.67",
+        "0.00",
+        "100.00",
     ]
     assert percent(Fraction(1, 20000)) == "0.01"

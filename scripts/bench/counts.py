@@ -54,23 +54,34 @@ def count_scripts(programs):
     beside("512 players over nine rounds", lambda it: count(it, [], played(512, ROUNDS)))
     beside("`standings` after them", lambda it: one_more(it, played(512, ROUNDS), "standings"))
     beside("500 `standings` after one round", lambda it: one_more(it, played(512, 1), *["standings"] * 500))
-    beside("`standings` after each result of 64 players", lambda it: count(it, [], played(64, ROUNDS, after_each=["standings"])))
+    beside(
+        "`standings` after each result of 64 players",
+        lambda it: count(it, [], played(64, ROUNDS, after_each=["standings"])),
+    )
     beside("32 players to the champion", lambda it: count(it, [], to_the_champion(32, 5, 8)))
 
 
 def count_lines(program):
     with tempfile.TemporaryDirectory() as room:
         path = event_file(program, room, 512)
-        print(f"`players` over a file of 512 players after nine rounds: {count(program, ['players', path]):.1f}")
+        print(
+            f"`players` over a file of 512 players after nine rounds: {count(program, ['players', path]):.1f}"
+        )
         print(f"`standings` over the same file: {count(program, ['standings', path]):.1f}")
-        print(f"`correct` over the same file: {count(program, ['correct', path, '9', '1', '2', '0', '0']):.1f}")
+        print(
+            f"`correct` over the same file: {count(program, ['correct', path, '9', '1', '2', '0', '0']):.1f}"
+        )
 
 
 def count_last_round(program, players):
     whole, cut = played(players, ROUNDS), played(players, ROUNDS, 8)
     before = whole[: -players // 2 - 1]
-    pair, last = one_more(program, before, f"pair\t{ROUNDS}\t{seed(ROUNDS)}"), one_more(program, whole[:-1], whole[-1])
-    print(f"{players} players: pair of round nine {pair:.2f}, its last result {last:.2f}, cut to 8 {one_more(program, cut, 'cut'):.2f}")
+    pair, last = one_more(program, before, f"pair\t{ROUNDS}\t{seed(ROUNDS)}"), one_more(
+        program, whole[:-1], whole[-1]
+    )
+    print(
+        f"{players} players: pair of round nine {pair:.2f}, its last result {last:.2f}, cut to 8 {one_more(program, cut, 'cut'):.2f}"
+    )
 
 
 def main(program, peers):
@@ -82,4 +93,8 @@ def main(program, peers):
 
 
 if __name__ == "__main__":
-    main(**given_by(__doc__, program=PROGRAM, peers=Word(os.path.abspath, "a program that is counted beside it", "*")))
+    main(
+        **given_by(
+            __doc__, program=PROGRAM, peers=Word(os.path.abspath, "a program that is counted beside it", "*")
+        )
+    )

@@ -54,7 +54,15 @@ def standings(base):
         return sum(shares[it] for it in others) // len(others) if others else LEAST
 
     def line(no, name, dropped):
-        return -total[no][0], -mean(match_wins, met[no]), -game_wins[no], -mean(game_wins, met[no]), no, name, dropped
+        return (
+            -total[no][0],
+            -mean(match_wins, met[no]),
+            -game_wins[no],
+            -mean(game_wins, met[no]),
+            no,
+            name,
+            dropped,
+        )
 
     lines = sorted(line(*player) for player in players)
     text, before, rank = "Rank   No Pts    OMW    GWP    OGW D Name\n", None, 0
@@ -70,7 +78,9 @@ def report(base, number, table, score):
     """Stores a score if there is none, and gives the serial."""
     base.execute("BEGIN IMMEDIATE")
     values = score["a"], score["b"], score["d"], number, table
-    stored = base.execute("UPDATE pairing SET done = 1, x = ?, y = ?, d = ? WHERE round = ? AND tab = ? AND done = 0", values)
+    stored = base.execute(
+        "UPDATE pairing SET done = 1, x = ?, y = ?, d = ? WHERE round = ? AND tab = ? AND done = 0", values
+    )
     if stored.rowcount != 1:
         base.execute("ROLLBACK")
         return None
@@ -96,8 +106,17 @@ class Handler(http.server.BaseHTTPRequestHandler):
 
     def do_POST(self):
         number, table = re.fullmatch("/rounds/([0-9]+)/tables/([0-9]+)", self.path).groups()
-        serial = report(self.server.base, int(number), int(table), json.loads(self.rfile.read(int(self.headers["Content-Length"]))))
-        self.send(200 if serial else 409, "application/json", json.dumps({"serial": serial}, separators=(",", ":")).encode())
+        serial = report(
+            self.server.base,
+            int(number),
+            int(table),
+            json.loads(self.rfile.read(int(self.headers["Content-Length"]))),
+        )
+        self.send(
+            200 if serial else 409,
+            "application/json",
+            json.dumps({"serial": serial}, separators=(",", ":")).encode(),
+        )
 
     def log_message(self, *_):
         pass

@@ -29,7 +29,9 @@ def run(program, script):
 
 def main(runs, programs):
     wrong = 0
-    print(f"best of {runs} runs each, in milliseconds, with the start of the process: {', '.join(map(os.path.basename, programs))}")
+    print(
+        f"best of {runs} runs each, in milliseconds, with the start of the process: {', '.join(map(os.path.basename, programs))}"
+    )
     for name, lines in CASES.items():
         script = "".join(f"{line}\n" for line in lines).encode()
         times, said = {it: [] for it in programs}, {}

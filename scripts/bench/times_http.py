@@ -33,7 +33,9 @@ def pairings(is_open):
         circle = [1] + [2 + (place + number) % (PLAYERS - 1) for place in range(PLAYERS - 1)]
         for table in range(1, PLAYERS // 2 + 1):
             a, b = circle[table - 1], circle[PLAYERS - table]
-            score = (0, 0, 0, 0) if is_open and number == ROUNDS else (1, *SCORES[(7 * a + 3 * b + number) % 5])
+            score = (
+                (0, 0, 0, 0) if is_open and number == ROUNDS else (1, *SCORES[(7 * a + 3 * b + number) % 5])
+            )
             yield number, table, min(a, b), max(a, b), int(a > b), *score
 
 
@@ -51,7 +53,9 @@ def tallies(is_open):
 def made(program, file, is_open):
     subprocess.run([program, "init", file, "Friday", str(ROUNDS), "0"], check=True, stdout=subprocess.DEVNULL)
     base = sqlite3.connect(file)
-    base.executemany("INSERT INTO player2 VALUES (?, ?, 0, 0)", ((it, f"N{it}") for it in range(1, PLAYERS + 1)))
+    base.executemany(
+        "INSERT INTO player2 VALUES (?, ?, 0, 0)", ((it, f"N{it}") for it in range(1, PLAYERS + 1))
+    )
     base.executemany("INSERT INTO pairing VALUES (?, ?, ?, ?, ?, ?, ?, ?, ?)", pairings(is_open))
     base.executemany("INSERT INTO tally VALUES (?, ?, ?, ?, ?)", tallies(is_open))
     base.execute("UPDATE event SET phase = 1, serial = 5000")
@@ -70,7 +74,10 @@ def timed(serving, sent):
 
 
 def post(table):
-    return b'POST /rounds/%d/tables/%d HTTP/1.1\r\nContent-Length: 19\r\n\r\n{"a":2,"b":1,"d":0}' % (ROUNDS, table)
+    return b'POST /rounds/%d/tables/%d HTTP/1.1\r\nContent-Length: 19\r\n\r\n{"a":2,"b":1,"d":0}' % (
+        ROUNDS,
+        table,
+    )
 
 
 def compare(program, name, file, requests):
@@ -91,10 +98,26 @@ def compare(program, name, file, requests):
 def main(program, count):
     print(f"medians of {count} requests each, in milliseconds: the program, and Python's http.server")
     with tempfile.TemporaryDirectory() as room:
-        compare(program, f"GET /standings of {PLAYERS} players after nine rounds", made(program, f"{room}/nine", False), [GET] * count)
+        compare(
+            program,
+            f"GET /standings of {PLAYERS} players after nine rounds",
+            made(program, f"{room}/nine", False),
+            [GET] * count,
+        )
         scores = [post(table) for table in range(1, min(count, PLAYERS // 2) + 1)]
-        compare(program, f"POST of a score among {PLAYERS} players, in round nine", made(program, f"{room}/open", True), scores)
+        compare(
+            program,
+            f"POST of a score among {PLAYERS} players, in round nine",
+            made(program, f"{room}/open", True),
+            scores,
+        )
 
 
 if __name__ == "__main__":
-    main(**given_by(__doc__, program=PROGRAM, count=Word(int, "how many requests of each kind; without it 100", "?", 100)))
+    main(
+        **given_by(
+            __doc__,
+            program=PROGRAM,
+            count=Word(int, "how many requests of each kind; without it 100", "?", 100),
+        )
+    )

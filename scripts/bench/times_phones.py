@@ -16,7 +16,16 @@ import tempfile
 import threading
 import time
 
-from scripts.clients.phone_rooms import SCORES, Gateway, address, copied_event, links, results, spread, targets
+from scripts.clients.phone_rooms import (
+    SCORES,
+    Gateway,
+    address,
+    copied_event,
+    links,
+    results,
+    spread,
+    targets,
+)
 from scripts.clients.program import Program
 from scripts.clients.proxies import Proxied, command_of
 from scripts.clients.random_evenings import STARTED, evening, laid, report_round
@@ -43,7 +52,13 @@ class Phone:
     """Loads its table and the second screen, hands in until it is answered, and looks at what is stored."""
 
     def __init__(self, gateway, number, target, score, wait):
-        self.gateway, self.source, self.target, self.score, self.wait = gateway, address(number), target, score, wait
+        self.gateway, self.source, self.target, self.score, self.wait = (
+            gateway,
+            address(number),
+            target,
+            score,
+            wait,
+        )
         self.pages, self.seconds, self.is_stored = [], 0.0, False
 
     def __call__(self):
@@ -82,16 +97,28 @@ def played(name, program, file, waits):
     dice = random.Random(1)
     with Gateway(program, file) as gateway:
         aims = targets(program, file)
-        phones = {table: Phone(gateway, table, target, dice.choice(SCORES), waits(dice)) for table, target in aims.items()}
+        phones = {
+            table: Phone(gateway, table, target, dice.choice(SCORES), waits(dice))
+            for table, target in aims.items()
+        }
         took = together(list(phones.values()))
         memory = memory_of(gateway.process.pid)
     stored = results(program, file)
     number = max(it for it, _ in stored)
-    check(f"{name}: all are stored", {it: stored[number, it] for it in phones}, {it: phone.score for it, phone in phones.items()})
+    check(
+        f"{name}: all are stored",
+        {it: stored[number, it] for it in phones},
+        {it: phone.score for it, phone in phones.items()},
+    )
     check(f"{name}: all see it", [it for it, phone in phones.items() if not phone.is_stored], [])
-    print(f"{name}: {len(phones)} scores, the last one answered after {took:.1f} s; a score {spread([it.seconds for it in phones.values()])}")
+    print(
+        f"{name}: {len(phones)} scores, the last one answered after {took:.1f} s; a score {spread([it.seconds for it in phones.values()])}"
+    )
     print(f"    a phone from the first page to the answer {spread([it.in_all for it in phones.values()])}")
-    print(f"    a page {spread([seconds for it in phones.values() for seconds in it.pages])}; {memory}", flush=True)
+    print(
+        f"    a page {spread([seconds for it in phones.values() for seconds in it.pages])}; {memory}",
+        flush=True,
+    )
 
 
 def in_turn(name, gateway, program, file):
@@ -108,11 +135,17 @@ def in_turn(name, gateway, program, file):
 def one_by_one(name, program, file, silent):
     """Scores in turn, beside connections of one other address that send nothing."""
     with Gateway(program, file) as gateway:
-        held = [socket.create_connection(("127.0.0.1", gateway.port), source_address=("127.0.99.9", 0)) for _ in range(silent)]
+        held = [
+            socket.create_connection(("127.0.0.1", gateway.port), source_address=("127.0.99.9", 0))
+            for _ in range(silent)
+        ]
         seconds = in_turn(name, gateway, program, file)
         for it in held:
             it.close()
-        print(f"{name}: {len(seconds)} scores in turn, {spread(seconds)}; {memory_of(gateway.process.pid)}", flush=True)
+        print(
+            f"{name}: {len(seconds)} scores in turn, {spread(seconds)}; {memory_of(gateway.process.pid)}",
+            flush=True,
+        )
 
 
 def fetched(gateway, target, source):
@@ -142,7 +175,10 @@ def opened_at_once(name, program, file, pages):
 
         took = together([functools.partial(phone, number) for number in range(1, len(aims) + 1)])
         check(f"{name}: all are answered", set(statuses), {200})
-        print(f"{name}: {len(aims)} phones, all answered after {took:.1f} s; a phone {spread(seconds)}; {memory_of(gateway.process.pid)}", flush=True)
+        print(
+            f"{name}: {len(aims)} phones, all answered after {took:.1f} s; a phone {spread(seconds)}; {memory_of(gateway.process.pid)}",
+            flush=True,
+        )
 
 
 def beside_greedy(name, program, file):
@@ -162,7 +198,10 @@ def beside_greedy(name, program, file):
         is_over.set()
         for it in threads:
             it.join()
-        print(f"{name}: {len(seconds)} scores in turn, {spread(seconds)}; {len(got)} boards asked for, {got.count(200)} answered; {memory_of(gateway.process.pid)}", flush=True)
+        print(
+            f"{name}: {len(seconds)} scores in turn, {spread(seconds)}; {len(got)} boards asked for, {got.count(200)} answered; {memory_of(gateway.process.pid)}",
+            flush=True,
+        )
 
 
 def behind(kind, program, file, room):
@@ -178,13 +217,22 @@ def behind(kind, program, file, room):
         random.Random(1).shuffle(jobs)
         with concurrent.futures.ThreadPoolExecutor(AT_ONCE) as phones:
             begun = time.perf_counter()
-            statuses = list(phones.map(lambda job: gateway.ask(*job[1], source=address(job[0] % 400))[0], enumerate(jobs)))
+            statuses = list(
+                phones.map(lambda job: gateway.ask(*job[1], source=address(job[0] % 400))[0], enumerate(jobs))
+            )
             took = time.perf_counter() - begun
         check(f"behind {kind}: none failed", [it for it in statuses if it >= 500], [])
         counted = {status: statuses.count(status) for status in sorted(set(statuses))}
-        print(f"behind {kind}: {len(statuses)} requests in {took:.1f} s: {counted}; {memory_of(gateway.process.pid)}", flush=True)
+        print(
+            f"behind {kind}: {len(statuses)} requests in {took:.1f} s: {counted}; {memory_of(gateway.process.pid)}",
+            flush=True,
+        )
     stored = results(program, file)
-    check(f"behind {kind}: all are stored", {table for (number, table), score in stored.items() if number == 3 and score}, set(aims))
+    check(
+        f"behind {kind}: all are stored",
+        {table for (number, table), score in stored.items() if number == 3 and score},
+        set(aims),
+    )
 
 
 def main(program, players):

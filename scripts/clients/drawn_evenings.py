@@ -15,7 +15,16 @@ def text_bytes(event, number, drawing, after, drawn, by="-", instead="-"):
     tables = tables_due(event, number, due(event_of(players, results), bytes.fromhex(key)))
     mark = sha256(players + results)
     head = f"event_reporter draw 2\nround {number}\ndrawing {drawing}\nafter {after}\nmark {mark}\nnumber {drawn}\nby {by}\ninstead {instead}\nkey {key}\n"
-    return head.encode() + b"players.csv\n" + players + b"results.csv\n" + results + b"drawn.csv\n" + tables + b"end\n"
+    return (
+        head.encode()
+        + b"players.csv\n"
+        + players
+        + b"results.csv\n"
+        + results
+        + b"drawn.csv\n"
+        + tables
+        + b"end\n"
+    )
 
 
 def thrown(dice):
@@ -70,6 +79,8 @@ def changes(dice, text, count):
     """Texts that differ in a byte: another one in its place, one less, or one more."""
     for _ in range(count):
         at, put = dice.randrange(len(text)), bytes([dice.choice(b"0 7a,\n-;zA\xff")])
-        changed = dice.choice((text[:at] + put + text[at + 1 :], text[:at] + text[at + 1 :], text[:at] + put + text[at:]))
+        changed = dice.choice(
+            (text[:at] + put + text[at + 1 :], text[:at] + text[at + 1 :], text[:at] + put + text[at:])
+        )
         if changed != text:
             yield changed

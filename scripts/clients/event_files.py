@@ -117,7 +117,13 @@ def play_rounds(sends, event):
 
 def play_stages(sends, event):
     """Their playoff."""
-    for stage, slot, (x, y, d) in ((1, 1, (1, 1, 0)), (1, 1, (2, 0, 0)), (1, 2, (1, 2, 0)), (2, 1, (0, 2, 0)), (2, 1, (0, 2, 0))):
+    for stage, slot, (x, y, d) in (
+        (1, 1, (1, 1, 0)),
+        (1, 1, (2, 0, 0)),
+        (1, 2, (1, 2, 0)),
+        (2, 1, (0, 2, 0)),
+        (2, 1, (0, 2, 0)),
+    ):
         sends(f"playoff\t{stage}\t{slot}\t{x}\t{y}\t{d}", event.play(stage, slot, (x, y, d)), event)
 
 
@@ -142,7 +148,15 @@ def play_migration(sends):
 def pairing_rows(event):
     for number, matches in enumerate(event.stored, 1):
         for place, (a, b, score) in enumerate(matches, 1):
-            yield (number, place if b else 0, min(a, b), max(a, b), int(a > b), int(score is not None), *(score or (0, 0, 0)))
+            yield (
+                number,
+                place if b else 0,
+                min(a, b),
+                max(a, b),
+                int(a > b),
+                int(score is not None),
+                *(score or (0, 0, 0)),
+            )
 
 
 def bracket_rows(event):
@@ -154,7 +168,10 @@ def bracket_rows(event):
 def rows_of(event, name="E"):
     """The rows of the five tables that stand for an event of this name."""
     columns = 3 if event.version == 1 else 4
-    players = [(it, event.names[it - 1], int(it in event.dropped), event.joined(it))[:columns] for it in event.numbers()]
+    players = [
+        (it, event.names[it - 1], int(it in event.dropped), event.joined(it))[:columns]
+        for it in event.numbers()
+    ]
     first = (1, event.version, event.serial, name, event.rounds, event.cut, event.phase)
     tallies = [(it, *event.totals(it)) for it in event.numbers()]
     return [first], players, sorted(pairing_rows(event)), sorted(bracket_rows(event)), tallies
@@ -177,7 +194,9 @@ def rows_read(file):
         other = PLAYERS[3 - version]
         if has_table(base, other) and (version == 1 or base.execute(f"SELECT 1 FROM {other}").fetchall()):
             raise ValueError(f"{file}: version {version} with {other}")
-        return tuple(sorted(base.execute(f"SELECT * FROM {table}").fetchall()) for table in tables_of(version))
+        return tuple(
+            sorted(base.execute(f"SELECT * FROM {table}").fetchall()) for table in tables_of(version)
+        )
     finally:
         base.close()
 

@@ -18,7 +18,9 @@ IN_MEMORY = "/dev/shm" if os.access("/dev/shm", os.W_OK) else None
 def streams(lines):
     """What is read comes from these lines. What is said, and what goes to standard error."""
     text = "".join(f"{line}\n" for line in lines).encode("utf-8", "surrogateescape")
-    given, said, errors = (io.TextIOWrapper(io.BytesIO(it), "utf-8", "surrogateescape") for it in (text, b"", b""))
+    given, said, errors = (
+        io.TextIOWrapper(io.BytesIO(it), "utf-8", "surrogateescape") for it in (text, b"", b"")
+    )
     before = sys.stdin, sys.stdout, sys.stderr
     sys.stdin, sys.stdout, sys.stderr = given, said, errors
     try:
@@ -111,7 +113,13 @@ def count(stop):
 
         return called
 
-    calls = (os, "open link unlink fsync makedirs replace rename chmod"), (shutil, "copyfileobj"), (subprocess, "run"), (builtins, "open"), (companions.copies, "exchange")
+    calls = (
+        (os, "open link unlink fsync makedirs replace rename chmod"),
+        (shutil, "copyfileobj"),
+        (subprocess, "run"),
+        (builtins, "open"),
+        (companions.copies, "exchange"),
+    )
     for place, names in calls:
         for name in names.split():
             setattr(place, name, stopping(getattr(place, name)))

@@ -37,8 +37,16 @@ def made(program, file, players=8, rounds=3, cut=0, results=()):
     """An event whose first round is paired, with these results."""
     names = f"{file}.csv"
     with open(names, "w", encoding="utf-8") as it:
-        it.writelines(f"{name}\n" for name in ["name", *(f"Player {number:03} of the House" for number in range(1, players + 1))])
-    lines = [["init", file, "Friday", str(rounds), str(cut)], ["import", file, names], ["start", file], ["pair", file, "1", "0" * 64]]
+        it.writelines(
+            f"{name}\n"
+            for name in ["name", *(f"Player {number:03} of the House" for number in range(1, players + 1))]
+        )
+    lines = [
+        ["init", file, "Friday", str(rounds), str(cut)],
+        ["import", file, names],
+        ["start", file],
+        ["pair", file, "1", "0" * 64],
+    ]
     for words in [*lines, *(["result", file, "1", *map(str, it)] for it in results)]:
         assert Program(program).run(*words)[0] == 0, f"{os.path.basename(file)}: {words[0]}"
     return file
@@ -52,7 +60,11 @@ def asked(program, words):
 def results(program, file):
     """The score of each table by round and table, or nothing; byes are left out."""
     rows = list(csv.reader(io.StringIO(asked(program, ["export", file, "results"]))))[1:]
-    return {(int(number), int(table)): "-".join(score).strip("-") for number, table, _, _, *score in rows if int(table)}
+    return {
+        (int(number), int(table)): "-".join(score).strip("-")
+        for number, table, _, _, *score in rows
+        if int(table)
+    }
 
 
 def targets(program, file, seat=0):
@@ -65,7 +77,10 @@ def targets(program, file, seat=0):
 def links(program, file):
     """The own page of each player."""
     secret = kept_secret(file)
-    return {number: secret.link(player) for number, player in players_of(asked(program, ["export", file, "players"])).items()}
+    return {
+        number: secret.link(player)
+        for number, player in players_of(asked(program, ["export", file, "players"])).items()
+    }
 
 
 def slips_for(file, asks_both=None):
@@ -77,10 +92,14 @@ def slips_for(file, asks_both=None):
 
 def report_to(program, file, table, score, outcome, stored, drops=(), seat=0, number=1):
     """A line in FILE.reports, as event-phones writes it."""
-    match = next(it for it in rounds_of(asked(program, ["export", file, "results"]))[number - 1] if it.place == table)
+    match = next(
+        it for it in rounds_of(asked(program, ["export", file, "results"]))[number - 1] if it.place == table
+    )
     seats = number, table, match.first, match.second
     said, stored = Score.parse(score), Score.parse(stored) if stored else None
-    Reports(file).add(Report(time.strftime(TIME), *seats, said, outcome, stored, "10.0.0.7", tuple(drops), seat))
+    Reports(file).add(
+        Report(time.strftime(TIME), *seats, said, outcome, stored, "10.0.0.7", tuple(drops), seat)
+    )
     return match
 
 
@@ -94,13 +113,28 @@ class Gateway:
 
     def __init__(self, program, file, *words, **how):
         self.port, self.desk_port, self.file = free_port(), free_port(), file
-        line = [*PYTHON, PHONES, file, "--at", f"127.0.0.1:{self.port}", "--desk", str(self.desk_port), "--program", program, *words]
-        self.process = subprocess.Popen(line, stdin=subprocess.DEVNULL, stdout=subprocess.PIPE, stderr=subprocess.PIPE, **how)
+        line = [
+            *PYTHON,
+            PHONES,
+            file,
+            "--at",
+            f"127.0.0.1:{self.port}",
+            "--desk",
+            str(self.desk_port),
+            "--program",
+            program,
+            *words,
+        ]
+        self.process = subprocess.Popen(
+            line, stdin=subprocess.DEVNULL, stdout=subprocess.PIPE, stderr=subprocess.PIPE, **how
+        )
         is_there, _, _ = select.select([self.process.stdout], [], [], PATIENCE)
         said = self.process.stdout.readline() if is_there else b""
         if not said.startswith(b"Phones: "):
             self.process.kill()
-            raise OSError(f"event-phones does not serve: {said!r}, {self.process.communicate()[1].decode()[-500:]}")
+            raise OSError(
+                f"event-phones does not serve: {said!r}, {self.process.communicate()[1].decode()[-500:]}"
+            )
 
     def __enter__(self):
         return self
@@ -124,10 +158,17 @@ class Gateway:
 
     def ask(self, method, target, body=None, source="127.0.0.1", port=None, **fields):
         """The status, the fields and the text of an answer."""
-        connection = http.client.HTTPConnection("127.0.0.1", port or self.port, timeout=PATIENCE, source_address=(source, 0))
+        connection = http.client.HTTPConnection(
+            "127.0.0.1", port or self.port, timeout=PATIENCE, source_address=(source, 0)
+        )
         try:
             head = {"Content-Type": FORM} if body is not None else {}
-            connection.request(method, target, body, {**head, **{name.replace("_", "-"): value for name, value in fields.items()}})
+            connection.request(
+                method,
+                target,
+                body,
+                {**head, **{name.replace("_", "-"): value for name, value in fields.items()}},
+            )
             answer = connection.getresponse()
             text = answer.read().decode()
             return answer.status, dict(answer.getheaders()), text
@@ -151,7 +192,12 @@ class Burst:
     def __init__(self, gateway, aims, scores, is_patient=True):
         self.acknowledged, self.others, self.seconds = {}, [], []
         self.tries = 60 if is_patient else 1
-        self.threads = [threading.Thread(target=self.phone, args=(gateway, table, aims[table], scores[table]), daemon=True) for table in aims]
+        self.threads = [
+            threading.Thread(
+                target=self.phone, args=(gateway, table, aims[table], scores[table]), daemon=True
+            )
+            for table in aims
+        ]
         for it in self.threads:
             it.start()
 

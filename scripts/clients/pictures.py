@@ -46,8 +46,21 @@ LAST = (
     "Smith", "Becker", "Krüger", "Koch", "Schröder", "García Pérez", "Müller", "Fischer", "Kowalski", "Wolf", "Schwarz", "Šimák", "van der Berg", "O'Brien",
     "Schmitt", "Østergård", "Nguyễn", "Lefèvre", "Åström", "Werner", "Wagner", "Braun", "Zimmermann", "Schulz", "Hartmann", "Neumann", "Lange", "Weber",
 )  # fmt: skip
-LONG = "Maximiliane Oberhausener", "Wolfgang Amadeus Theophilus Mozart", "Bartholomäus von Scharnhorst-Gneisenau", "Anastasia Wilhelmina Montgomery"
-OTHER = "\u738b\u5c0f\u660e", "\u041c\u0430\u0440\u0438\u044f \u0418\u0432\u0430\u043d\u043e\u0432\u0430", "\u0645\u062d\u0645\u062f \u0639\u0644\u064a", "\u05d3\u05d5\u05d3 \u05dc\u05d5\u05d9", "\u4f50\u85e4\u3055\u304f\u3089", "\uae40\uc9c0\uc6b0", "\u0395\u03bb\u03ad\u03bd\u03b7 \u03a0\u03b1\u03c0\u03b1\u03b4\u03ac\u03ba\u03b7"
+LONG = (
+    "Maximiliane Oberhausener",
+    "Wolfgang Amadeus Theophilus Mozart",
+    "Bartholomäus von Scharnhorst-Gneisenau",
+    "Anastasia Wilhelmina Montgomery",
+)
+OTHER = (
+    "\u738b\u5c0f\u660e",
+    "\u041c\u0430\u0440\u0438\u044f \u0418\u0432\u0430\u043d\u043e\u0432\u0430",
+    "\u0645\u062d\u0645\u062f \u0639\u0644\u064a",
+    "\u05d3\u05d5\u05d3 \u05dc\u05d5\u05d9",
+    "\u4f50\u85e4\u3055\u304f\u3089",
+    "\uae40\uc9c0\uc6b0",
+    "\u0395\u03bb\u03ad\u03bd\u03b7 \u03a0\u03b1\u03c0\u03b1\u03b4\u03ac\u03ba\u03b7",
+)
 
 
 TITLE, AT, HOST = "Friday Night", "http://192.168.1.10:8080", "192.168.1.10:8080"
@@ -93,15 +106,21 @@ class Room:
         with open(f"{self.file}.look", "w", encoding="utf-8") as written:
             written.write(look)
         # as `import` keeps them of a list that has first and last names apart
-        lasts = {name: next((last for last in LAST if name.endswith(f" {last}")), "") for name in played.names}
-        ShownNames(self.file).write([ShownName(number, name, name, lasts[name]) for number, name in enumerate(played.names, 1)])
+        lasts = {
+            name: next((last for last in LAST if name.endswith(f" {last}")), "") for name in played.names
+        }
+        ShownNames(self.file).write(
+            [ShownName(number, name, name, lasts[name]) for number, name in enumerate(played.names, 1)]
+        )
         keep_clock(self.file, Clock(int(time.time()) + left, 50))
         event = Event(FromModel(played), self.file)
         event.plan = Plan(TITLE, played.rounds, played.cut)
         return event
 
     def page(self, played, parts, is_board=True, is_dark=False, title=None, **how):
-        return page_maker(Wanted(self.file, parts, title=title, is_board=is_board, is_dark=is_dark))(self.event(played, **how))
+        return page_maker(Wanted(self.file, parts, title=title, is_board=is_board, is_dark=is_dark))(
+            self.event(played, **how)
+        )
 
     def write(self, name, text):
         with open(f"{self.folder}/{name}", "w", encoding="utf-8") as written:
@@ -109,9 +128,23 @@ class Room:
         return f"file://{self.folder}/{name}"
 
     def browse(self, url, *words):
-        line = [self.browser, "--headless", "--no-sandbox", "--disable-gpu", "--hide-scrollbars", "--allow-file-access-from-files"]
+        line = [
+            self.browser,
+            "--headless",
+            "--no-sandbox",
+            "--disable-gpu",
+            "--hide-scrollbars",
+            "--allow-file-access-from-files",
+        ]
         line += [f"--user-data-dir={self.folder}/browser", *words, url]
-        subprocess.run(line, stdin=subprocess.DEVNULL, stdout=subprocess.DEVNULL, stderr=subprocess.DEVNULL, check=True, timeout=240)
+        subprocess.run(
+            line,
+            stdin=subprocess.DEVNULL,
+            stdout=subprocess.DEVNULL,
+            stderr=subprocess.DEVNULL,
+            check=True,
+            timeout=240,
+        )
 
     def shoot(self, name, text, screen):
         url = self.write("page.html", text)
@@ -132,7 +165,9 @@ def boards():
     for part, count in itertools.product(("tables", "standings"), COUNTS):
         yield f"{count}-{part}", (evening(count), [part]), {}, SCREENS[1]
     for part, is_dark in itertools.product(("bracket", "champion", "final"), (False, True)):
-        yield f"37-{part}-{'dark' if is_dark else 'light'}", (evening(37, is_ended=True), [part]), {"is_dark": is_dark}, SCREENS[1]
+        yield f"37-{part}-{'dark' if is_dark else 'light'}", (evening(37, is_ended=True), [part]), {
+            "is_dark": is_dark
+        }, SCREENS[1]
     yield "37-long-bracket", (evening(37, "long", is_ended=True), ["bracket"]), {}, SCREENS[1]
     yield "37-amber", (evening(37), ["names"]), {"left": NEAR_ITS_END}, SCREENS[1]
     yield "37-over", (evening(37), ["standings"]), {"left": OVER}, SCREENS[1]
@@ -145,9 +180,14 @@ def draw_boards(room):
     for name, what, how, screen in boards():
         room.shoot(name, room.page(*what, **how), screen)
         names.append(name)
-    figures = "".join(f'<figure><img src="{it}.png" width="620"><figcaption>{html.escape(it)}</figcaption></figure>' for it in names)
+    figures = "".join(
+        f'<figure><img src="{it}.png" width="620"><figcaption>{html.escape(it)}</figcaption></figure>'
+        for it in names
+    )
     with open(f"{room.out}/index.html", "w", encoding="utf-8") as index:
-        index.write(f'<!DOCTYPE html><meta charset="utf-8"><title>Boards</title><body style="display:flex;flex-wrap:wrap">{figures}')
+        index.write(
+            f'<!DOCTYPE html><meta charset="utf-8"><title>Boards</title><body style="display:flex;flex-wrap:wrap">{figures}'
+        )
 
 
 # ---- the pictures of the documents
@@ -155,7 +195,9 @@ def draw_boards(room):
 
 def framed(pages, width, height, scale):
     """Pages side by side, each as on a screen of this size, drawn smaller."""
-    frame = 'width:{}px;height:{}px;transform:scale({});transform-origin:0 0;border:0'.format(width, height, scale)
+    frame = "width:{}px;height:{}px;transform:scale({});transform-origin:0 0;border:0".format(
+        width, height, scale
+    )
     return "".join(
         f'<div style="width:{width * scale:g}px;height:{height * scale:g}px;overflow:hidden;background:#fff"><iframe src="{it}" style="{frame}"></iframe></div>'
         for it in pages
@@ -172,7 +214,9 @@ def draw_board(room):
     """The names, large, and beneath them the standings and the bracket."""
     names = room.write("names.html", room.page(evening(37), ["names"]))
     standings = room.write("standings.html", room.page(evening(37), ["standings"], left=NEAR_ITS_END))
-    bracket = room.write("bracket.html", room.page(evening(37, is_ended=True), ["bracket"], is_dark=True, left=OVER))
+    bracket = room.write(
+        "bracket.html", room.page(evening(37, is_ended=True), ["bracket"], is_dark=True, left=OVER)
+    )
     rows = framed([names], 1920, 1080, 0.66), framed([standings, bracket], 1920, 1080, 0.66 / 2 - 0.003)
     room.shoot("board", in_rows(*rows), (24 + round(1920 * 0.66), 36 + round(1080 * 0.66 * 1.5)))
 
@@ -180,10 +224,33 @@ def draw_board(room):
 def draw_sheets(room):
     """As they are printed: a sheet of each kind."""
     sheets = []
-    for part, played in (("names", evening(37)), ("slips", evening(37)), ("standings", evening(37)), ("bracket", evening(37, is_ended=True))):
-        url = room.write("sheet.html", room.page(played, [part], is_board=False).replace("</head>", "<style>@page { size: A4 }</style></head>"))
+    for part, played in (
+        ("names", evening(37)),
+        ("slips", evening(37)),
+        ("standings", evening(37)),
+        ("bracket", evening(37, is_ended=True)),
+    ):
+        url = room.write(
+            "sheet.html",
+            room.page(played, [part], is_board=False).replace(
+                "</head>", "<style>@page { size: A4 }</style></head>"
+            ),
+        )
         room.browse(url, "--no-pdf-header-footer", f"--print-to-pdf={room.folder}/sheet.pdf")
-        subprocess.run(["pdftoppm", "-r", "72", "-l", "1", "-singlefile", "-png", f"{room.folder}/sheet.pdf", f"{room.folder}/{part}"], check=True)
+        subprocess.run(
+            [
+                "pdftoppm",
+                "-r",
+                "72",
+                "-l",
+                "1",
+                "-singlefile",
+                "-png",
+                f"{room.folder}/sheet.pdf",
+                f"{room.folder}/{part}",
+            ],
+            check=True,
+        )
         sheets.append(f'<img src="{part}.png" style="width:400px">')
     room.shoot("sheets", in_rows("".join(sheets)), (4 * 412 + 12, 24 + 566))
 
@@ -201,15 +268,26 @@ class Phone:
 
     def page(self, name, target, is_dark=False):
         path, _, query = target.partition("?")
-        environ = {"REQUEST_METHOD": "GET", "PATH_INFO": path, "QUERY_STRING": query, "HTTP_HOST": HOST, "REMOTE_ADDR": "192.168.1.77"}
+        environ = {
+            "REQUEST_METHOD": "GET",
+            "PATH_INFO": path,
+            "QUERY_STRING": query,
+            "HTTP_HOST": HOST,
+            "REMOTE_ADDR": "192.168.1.77",
+        }
         text = b"".join(self.site(environ, lambda *_: None)).decode()
         colours = style().decode()
         if is_dark:
             colours = colours.replace("@media (prefers-color-scheme: dark)", "@media all")
-        return self.room.write(f"{name}.html", text.replace('<link rel="stylesheet" href="/style.css">', f"<style>{colours}</style>"))
+        return self.room.write(
+            f"{name}.html",
+            text.replace('<link rel="stylesheet" href="/style.css">', f"<style>{colours}</style>"),
+        )
 
     def table(self, place):
-        return self.secret.target(len(self.event.rounds), self.event.match(len(self.event.rounds), str(place)), 0)
+        return self.secret.target(
+            len(self.event.rounds), self.event.match(len(self.event.rounds), str(place)), 0
+        )
 
 
 def scored(played, place, score):
@@ -222,10 +300,16 @@ def draw_phones(room):
     played = scored(scored(evening(37), 2, None), 3, None)
     phone = Phone(room, played)
     table, other = phone.table(2), phone.table(3)
-    pages = [phone.page("open", table), phone.page("look", f"{table}?s=2-1-0"), phone.page("dark", other, is_dark=True)]
+    pages = [
+        phone.page("open", table),
+        phone.page("look", f"{table}?s=2-1-0"),
+        phone.page("dark", other, is_dark=True),
+    ]
     pages.insert(2, Phone(room, scored(played, 2, (2, 1, 0))).page("stored", table))
     slip = room.page(scored(played, 1, None), ["slips"], is_board=False)
-    slip = room.write("slip.html", slip.replace('class="sheets"', 'class="sheets" style="width:194mm;max-width:none"'))
+    slip = room.write(
+        "slip.html", slip.replace('class="sheets"', 'class="sheets" style="width:194mm;max-width:none"')
+    )
     rows = framed(pages, 360, 590, 1), framed([slip], 746, 212, 1.98)
     room.shoot("phones", in_rows(*rows), (4 * 372 + 12, 36 + 590 + round(212 * 1.98)))
 
@@ -247,7 +331,9 @@ def main():
     given = words.parse_args()
     browser = next(filter(None, map(shutil.which, BROWSERS)), None)
     if browser is None or not (given.folder or given.documents):
-        words.error("name a folder, or --documents" if browser else f"no browser is installed: {', '.join(BROWSERS)}")
+        words.error(
+            "name a folder, or --documents" if browser else f"no browser is installed: {', '.join(BROWSERS)}"
+        )
     with tempfile.TemporaryDirectory() as folder:
         if given.documents:
             for draw in (draw_board, draw_sheets, draw_phones, draw_own_page):

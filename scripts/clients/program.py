@@ -27,7 +27,9 @@ class Program:
     def run(self, *words, **how):
         """The status, the output and the errors of a command line."""
         how.setdefault("stdin", subprocess.DEVNULL)
-        ran = subprocess.run([how.pop("path", self.path), *words], capture_output=True, timeout=PATIENCE, **how)
+        ran = subprocess.run(
+            [how.pop("path", self.path), *words], capture_output=True, timeout=PATIENCE, **how
+        )
         return ran.returncode, ran.stdout, ran.stderr
 
     def fed(self, data, *words):

@@ -49,10 +49,16 @@ def keys_of(file):
     """The rounds and keys of FILE.keys, in their order, without those that are marked as unused."""
     with open(f"{file}.keys", encoding="utf-8") as it:
         lines = it.read().splitlines()
-    assert [it for it in lines if not re.fullmatch("round [0-9]+ [0-9a-f]{64}( unused)?", it)] == [], f"{file}.keys"
+    assert [
+        it for it in lines if not re.fullmatch("round [0-9]+ [0-9a-f]{64}( unused)?", it)
+    ] == [], f"{file}.keys"
     assert stat.S_IMODE(os.stat(f"{file}.keys").st_mode) == 0o600, f"{file}.keys, for its owner alone"
     unused = {it[: -len(" unused")] for it in lines if it.endswith(" unused")}
-    return [(int(it.split()[1]), bytes.fromhex(it.split()[2])) for it in lines if not it.endswith(" unused") and it not in unused]
+    return [
+        (int(it.split()[1]), bytes.fromhex(it.split()[2]))
+        for it in lines
+        if not it.endswith(" unused") and it not in unused
+    ]
 
 
 # ---- the plain reading of what is said
@@ -92,7 +98,9 @@ def slot_named(event, stage, slot):
 
 
 def slot_typed(event, stage, slot):
-    return {"quarterfinal": f"qf{slot}", "semifinal": f"sf{slot}", "final": "final"}[STAGES[event.cut][stage - 1]]
+    return {"quarterfinal": f"qf{slot}", "semifinal": f"sf{slot}", "final": "final"}[
+        STAGES[event.cut][stage - 1]
+    ]
 
 
 def begun(text):
@@ -108,7 +116,12 @@ def next_due(event):
     if event.phase == FINISHED:
         return f"the champion is {player_shown(event, int(event.bracket()[-1].split()[1]))}. See: final"
     if event.phase == PLAYOFF:
-        places = [(stage, slot) for stage, matches in enumerate(event.stages, 1) for slot, match in enumerate(matches, 1) if not match[2]]
+        places = [
+            (stage, slot)
+            for stage, matches in enumerate(event.stages, 1)
+            for slot, match in enumerate(matches, 1)
+            if not match[2]
+        ]
         return f"open: {', '.join(slot_named(event, *it) for it in places)}. Next: play {slot_typed(event, *places[0])} 2 0"
     if not number:
         return "no round is paired yet. Next: pair"
@@ -120,7 +133,9 @@ def next_due(event):
 
 def where_due(title, file, event):
     """The line with which the prompt begins."""
-    phase = {ENROLLING: "enrolling", SWISS: "Swiss rounds", PLAYOFF: "playoff", FINISHED: "finished"}[event.phase]
+    phase = {ENROLLING: "enrolling", SWISS: "Swiss rounds", PLAYOFF: "playoff", FINISHED: "finished"}[
+        event.phase
+    ]
     return f"{title} ({file}), {phase}: {next_due(event)}"
 
 
@@ -150,7 +165,11 @@ class TypedEvening:
         for name in NAMES:
             answer = event.enrol(name)
             # as a word the program takes it for an option, so that it goes in as a list
-            self.taken(f"enrol {name}", ["added 1 already 0"] if name == "-x" else answer, f"{player_shown(event, len(event.names))} is enrolled.")
+            self.taken(
+                f"enrol {name}",
+                ["added 1 already 0"] if name == "-x" else answer,
+                f"{player_shown(event, len(event.names))} is enrolled.",
+            )
         self.taken("start", event.start(), where_due("Friday Night", self.file, event))
 
     def pair(self):
@@ -160,7 +179,14 @@ class TypedEvening:
         assert keys[-1][0] == number, "the round of the newest key"
         assert len({it for _, it in keys}) == len(keys), "no key comes twice"
         answer = event.pair(number, keys[-1][1])
-        check_said(f"pair {number}", said, answer[0], "\n".join(event.slips(number)), f"{self.file}.keys", keys[-1][1].hex())
+        check_said(
+            f"pair {number}",
+            said,
+            answer[0],
+            "\n".join(event.slips(number)),
+            f"{self.file}.keys",
+            keys[-1][1].hex(),
+        )
 
     def result(self, table, score):
         event, number = self.event, len(self.event.stored)
@@ -179,7 +205,11 @@ class TypedEvening:
         before = "-".join(map(str, match[2]))
         answer = event.report(number, table, score, False)
         line = f"fix {table} {' '.join(map(str, score[:2]))}"
-        self.expect(line, answer[0], f"Round {number}, table {table}: {match_shown(event, match, score)}, in place of {before}")
+        self.expect(
+            line,
+            answer[0],
+            f"Round {number}, table {table}: {match_shown(event, match, score)}, in place of {before}",
+        )
 
     def drop(self, word, number):
         self.expect(f"drop {word}", f"Drop {player_shown(self.event, number)}?")
@@ -202,14 +232,25 @@ class TypedEvening:
             tables = len([it for it in event.stored[-1] if it[1]])
             self.expect(
                 "open",
-                *(f"{table} {player_shown(event, it[0])} - {player_shown(event, it[1])}" for table, it in enumerate(event.stored[-1], 1) if it[1]),
+                *(
+                    f"{table} {player_shown(event, it[0])} - {player_shown(event, it[1])}"
+                    for table, it in enumerate(event.stored[-1], 1)
+                    if it[1]
+                ),
             )
             for table in range(1, tables + 1):
-                self.result(table, ((2, 1, 0), (0, 0, 3), (1, 2, 1), (2, 0, 0), (0, 2, 0))[(table + number) % 5])
+                self.result(
+                    table, ((2, 1, 0), (0, 0, 3), (1, 2, 1), (2, 0, 0), (0, 2, 0))[(table + number) % 5]
+                )
             self.fix(1, (0, 2, 0))
             if number == 1:
                 answer = event.enrol("Late Lou")
-                self.taken("enrol Late Lou", answer, "Late Lou (10) is enrolled.", "Round 1 is lost, without an opponent.")
+                self.taken(
+                    "enrol Late Lou",
+                    answer,
+                    "Late Lou (10) is enrolled.",
+                    "Round 1 is lost, without an opponent.",
+                )
                 self.drop("Lou", 10)
             if number == 2:
                 self.drop("2", 2)
@@ -252,7 +293,14 @@ class Piped:
     """The prompt, fed by a pipe line by line. There is no prompt, so what a line is answered is told by a line `keys` behind it, whose answer is known."""
 
     def __init__(self, words):
-        self.process = subprocess.Popen(words, stdin=subprocess.PIPE, stdout=subprocess.PIPE, stderr=subprocess.STDOUT, env=LETTERS, bufsize=0)
+        self.process = subprocess.Popen(
+            words,
+            stdin=subprocess.PIPE,
+            stdout=subprocess.PIPE,
+            stderr=subprocess.STDOUT,
+            env=LETTERS,
+            bufsize=0,
+        )
         self.said = b""
         self.asks = False
 
@@ -409,7 +457,9 @@ class Prompt:
     def typed(self, file, *lines, by=None, **how):
         """The status and what is said, to lines that come from a pipe."""
         text = "".join(f"{line}\n" for line in lines).encode("utf-8", "surrogateescape")
-        ran = subprocess.run(self.words(file, by), input=text, capture_output=True, timeout=PATIENCE, env=LETTERS, **how)
+        ran = subprocess.run(
+            self.words(file, by), input=text, capture_output=True, timeout=PATIENCE, env=LETTERS, **how
+        )
         assert ran.stderr.decode() == "", f"{lines[-1:]}, errors"
         return ran.returncode, ran.stdout.decode()
 

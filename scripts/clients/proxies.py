@@ -38,7 +38,11 @@ def configured(kind, room, port, behind):
     """The same, at this port of this machine and without TLS."""
     text = documented(kind)
     assert NAME in text and BEHIND in text, f"the {kind} of docs/PHONES.md"
-    text = re.sub(r"^ *ssl_.*\n", "", text, flags=re.M).replace(BEHIND, behind).replace("listen 443 ssl", f"listen 127.0.0.1:{port}")
+    text = (
+        re.sub(r"^ *ssl_.*\n", "", text, flags=re.M)
+        .replace(BEHIND, behind)
+        .replace("listen 443 ssl", f"listen 127.0.0.1:{port}")
+    )
     before, after = AROUND[kind]
     if kind == "caddy":
         text = text.replace(NAME, f"http://{NAME}:{port}", 1)
@@ -73,7 +77,13 @@ class Proxied(Gateway):
         }[self.kind]
         homes = {"HOME": self.own, "XDG_DATA_HOME": self.own, "XDG_CONFIG_HOME": self.own}
         self.log = open(f"{self.own}/log", "wb")
-        self.proxy = subprocess.Popen([command_of(self.kind), *words], env={**os.environ, **homes}, stdin=subprocess.DEVNULL, stdout=self.log, stderr=self.log)
+        self.proxy = subprocess.Popen(
+            [command_of(self.kind), *words],
+            env={**os.environ, **homes},
+            stdin=subprocess.DEVNULL,
+            stdout=self.log,
+            stderr=self.log,
+        )
         if not comes(self.answers, 120):
             self.proxy.kill()
             raise OSError(f"{self.kind} does not listen")
@@ -91,4 +101,3 @@ class Proxied(Gateway):
         self.proxy.wait(60)
         self.log.close()
         super().__exit__(*rest)
-

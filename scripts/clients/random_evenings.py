@@ -10,9 +10,29 @@ from scripts.models.plain_file import tables_of
 from scripts.models.random_play import random_playoff_score, random_score
 
 # how far on an event is
-ENROLLING, STARTED, OPEN, COMPLETE, IN_PLAYOFF, ENDED = WAYS = "enrolling", "started", "open", "complete", "in the playoff", "ended"
+ENROLLING, STARTED, OPEN, COMPLETE, IN_PLAYOFF, ENDED = WAYS = (
+    "enrolling",
+    "started",
+    "open",
+    "complete",
+    "in the playoff",
+    "ended",
+)
 
-FIRST_NAMES = "Ana", "bo", "Cy", "Zoë", "Óscar", "Émile", "Łukasz", "Øystein", "Æsa", "Đorđe", "O'Brien", "Anna-Lena"
+FIRST_NAMES = (
+    "Ana",
+    "bo",
+    "Cy",
+    "Zoë",
+    "Óscar",
+    "Émile",
+    "Łukasz",
+    "Øystein",
+    "Æsa",
+    "Đorđe",
+    "O'Brien",
+    "Anna-Lena",
+)
 
 HOSTILE = [
     "<script>alert(1)</script>",

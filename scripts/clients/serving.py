@@ -72,7 +72,9 @@ class Serving:
 
     def __init__(self, program, file, count, port=0, **how):
         words = self.words(program, file, count, port)
-        self.process = subprocess.Popen(words, stdin=subprocess.DEVNULL, stdout=subprocess.PIPE, stderr=subprocess.PIPE, **how)
+        self.process = subprocess.Popen(
+            words, stdin=subprocess.DEVNULL, stdout=subprocess.PIPE, stderr=subprocess.PIPE, **how
+        )
         is_there, _, _ = select.select([self.process.stdout], [], [], PATIENCE)
         line = self.process.stdout.readline() if is_there else b""
         found = re.fullmatch(rb"listening ([0-9]+)\n", line)

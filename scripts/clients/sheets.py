@@ -31,7 +31,9 @@ class Sheets:
     def printed(self, *words, python=(sys.executable, "-B"), **how):
         """The status, the output and the errors, where the output is no terminal."""
         line = self.words(*words, python=python)
-        ran = subprocess.run(line, cwd=self.room, stdin=subprocess.DEVNULL, capture_output=True, timeout=PATIENCE, **how)
+        ran = subprocess.run(
+            line, cwd=self.room, stdin=subprocess.DEVNULL, capture_output=True, timeout=PATIENCE, **how
+        )
         return ran.returncode, timeless(ran.stdout.decode()), ran.stderr.decode()
 
     def at_a_terminal(self, *words):
@@ -50,7 +52,9 @@ class Sheets:
 
     def watching(self, *words):
         """A process that keeps a page up to date."""
-        return subprocess.Popen(self.words(*words), stdin=subprocess.DEVNULL, stdout=subprocess.PIPE, stderr=subprocess.PIPE)
+        return subprocess.Popen(
+            self.words(*words), stdin=subprocess.DEVNULL, stdout=subprocess.PIPE, stderr=subprocess.PIPE
+        )
 
     def read(self, name):
         with open(f"{self.room}/{name}", encoding="utf-8", newline="") as page:

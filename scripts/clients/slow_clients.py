@@ -42,7 +42,11 @@ POST = b'POST /rounds/1/tables/1 HTTP/1.1\r\nContent-Length: 19\r\n\r\n{"a":2,"b
 
 def made(program, room):
     """An event with as many players as there may be, whose names are as long as they may be, and its file."""
-    file, names, event = f"{room}/e.event", [f"{it}".ljust(60, "x") for it in range(1, PLAYERS + 1)], Event(3, 0)
+    file, names, event = (
+        f"{room}/e.event",
+        [f"{it}".ljust(60, "x") for it in range(1, PLAYERS + 1)],
+        Event(3, 0),
+    )
     with open(f"{room}/names.csv", "w", encoding="utf-8") as it:
         it.writelines(f"{name}\n" for name in ["name", *names])
     for name in names:
@@ -112,7 +116,18 @@ class Kinds:
         self.accepted, self.reported = (served_plainly(self.after, it)[0] for it in (POST, GET_SLIP))
 
     def all(self):
-        return [self.silent, self.dripping, self.steady, self.stopping, self.staying, self.unread, self.sipping, self.crumbling, self.paused, *([self.browsed] if self.browser else [])]
+        return [
+            self.silent,
+            self.dripping,
+            self.steady,
+            self.stopping,
+            self.staying,
+            self.unread,
+            self.sipping,
+            self.crumbling,
+            self.paused,
+            *([self.browsed] if self.browser else []),
+        ]
 
     def silent(self, file):
         """Twenty that send nothing are let go one after the other."""
@@ -129,7 +144,9 @@ class Kinds:
 
     def dripping(self, file):
         """One that sends a byte now and then, and never the last one, is let go."""
-        with Serving(self.program, file, 2) as serving, serving.client() as client, concurrent.futures.ThreadPoolExecutor(1) as others:
+        with Serving(
+            self.program, file, 2
+        ) as serving, serving.client() as client, concurrent.futures.ThreadPoolExecutor(1) as others:
             score = others.submit(asked, serving, POST)
             drip(client, POST.replace(b"\r\n\r\n", b"\r\nX: " + b"a" * REQUEST * 8), 1, READ / 4, score.done)
             answer, taken = score.result()
@@ -141,7 +158,9 @@ class Kinds:
 
     def steady(self, file):
         """One that is slow, and yet within each limit, is answered; so is the one after it."""
-        with Serving(self.program, file, 2) as serving, serving.client() as client, concurrent.futures.ThreadPoolExecutor(1) as others:
+        with Serving(
+            self.program, file, 2
+        ) as serving, serving.client() as client, concurrent.futures.ThreadPoolExecutor(1) as others:
             slip = others.submit(asked, serving, GET_SLIP)
             drip(client, POST, 8, 0.4 * READ, slip.done)
             yield "one that is slow", received(client), self.accepted
@@ -185,14 +204,21 @@ class Kinds:
             sent_whole(client, sent)
             yield "one that sends on byte by byte, all of it", still_taken(client, b"{", 0.6 * REST), True
             sent_to_the_end(client, b"")
-            yield "one that sends on byte by byte", received(client), served_plainly(copy.deepcopy(self.event), sent)[0]
+            yield "one that sends on byte by byte", received(client), served_plainly(
+                copy.deepcopy(self.event), sent
+            )[0]
             yield "one that sends on byte by byte, the end", serving.end(), served(1)
         yield "one that sends on byte by byte, the file", rows_alone(file), rows_of(self.event)
 
     def paused(self, file):
         """The program is stopped in the middle of a score, as by Ctrl-Z, and goes on: the score is taken."""
         with Serving(self.program, file, 1) as serving, serving.client() as client:
-            for number, part in ((signal.SIGSTOP, POST[:20]), (signal.SIGCONT, b""), (signal.SIGSTOP, POST[20:40]), (signal.SIGCONT, b"")):
+            for number, part in (
+                (signal.SIGSTOP, POST[:20]),
+                (signal.SIGCONT, b""),
+                (signal.SIGSTOP, POST[20:40]),
+                (signal.SIGCONT, b""),
+            ):
                 sent_whole(client, part)
                 time.sleep(0.2 * READ)
                 serving.process.send_signal(number)
@@ -219,13 +245,18 @@ class Kinds:
             yield "behind one that never reads", answer, self.accepted
             yield within("behind one that never reads", taken, WRITE, WRITE)
             got = received(client)
-            yield "one that never reads", (len(got) < len(self.standings), self.standings.startswith(got)), (True, True)
+            yield "one that never reads", (len(got) < len(self.standings), self.standings.startswith(got)), (
+                True,
+                True,
+            )
             yield "one that never reads, the end", serving.end(), served(2)
         yield "one that never reads, the file", rows_alone(file), rows_of(self.after)
 
     def sipping(self, file):
         """One that reads a little now and then, and would take a minute for the whole."""
-        with Serving(self.program, file, 2) as serving, self.reader(serving) as client, concurrent.futures.ThreadPoolExecutor(1) as others:
+        with Serving(self.program, file, 2) as serving, self.reader(
+            serving
+        ) as client, concurrent.futures.ThreadPoolExecutor(1) as others:
             score = others.submit(asked, serving, POST)
             while not score.done():
                 with contextlib.suppress(ConnectionError):
@@ -239,7 +270,9 @@ class Kinds:
 
     def browsed(self, file):
         """Three tabs of a browser, and twenty scores, one a second. A program that takes too long for one isn't asked for more."""
-        with Serving(self.program, file, 1_000_000) as serving, Tabs(self.browser, serving.port, os.path.dirname(file)) as tabs:
+        with Serving(self.program, file, 1_000_000) as serving, Tabs(
+            self.browser, serving.port, os.path.dirname(file)
+        ) as tabs:
             tabs.wait_for(3)
             begun, event, taken = tabs.loaded, copy.deepcopy(self.event), 0
             for table in range(1, 21):
@@ -256,7 +289,13 @@ class Kinds:
 def curl(serving, table):
     """What curl is answered that hands in a score, and the seconds until it was."""
     begun = time.monotonic()
-    words = ["--max-time", str(2 * SOON), "--data", POST[-19:].decode(), f"http://127.0.0.1:{serving.port}/rounds/1/tables/{table}"]
+    words = [
+        "--max-time",
+        str(2 * SOON),
+        "--data",
+        POST[-19:].decode(),
+        f"http://127.0.0.1:{serving.port}/rounds/1/tables/{table}",
+    ]
     ran = subprocess.run(["curl", "-s", "-i", *words], capture_output=True, timeout=2 * WHOLE)
     return ran.stdout, time.monotonic() - begun
 
@@ -295,7 +334,13 @@ class Tabs:
         if browser.endswith("firefox"):
             words = ["--headless", "--profile", profile, *(f"{address}/tab{it}" for it in (1, 2, 3))]
         else:
-            words = ["--headless=new", "--no-sandbox", "--no-first-run", "--disable-gpu", "--disable-popup-blocking"]
+            words = [
+                "--headless=new",
+                "--no-sandbox",
+                "--no-first-run",
+                "--disable-gpu",
+                "--disable-popup-blocking",
+            ]
             words += [f"--user-data-dir={profile}", f"{address}/open"]
         quiet = {"stdin": subprocess.DEVNULL, "stdout": subprocess.DEVNULL, "stderr": subprocess.DEVNULL}
         return subprocess.Popen([browser, *words], start_new_session=True, **quiet)

@@ -23,7 +23,16 @@ class Browser:
         self.profile = f"{room}/browser"
         to_browser, self.to_browser = os.pipe()
         self.from_browser, from_browser = os.pipe()
-        words = [program, "--headless", "--no-sandbox", "--disable-gpu", "--hide-scrollbars", f"--user-data-dir={self.profile}", "--remote-debugging-pipe", "about:blank"]
+        words = [
+            program,
+            "--headless",
+            "--no-sandbox",
+            "--disable-gpu",
+            "--hide-scrollbars",
+            f"--user-data-dir={self.profile}",
+            "--remote-debugging-pipe",
+            "about:blank",
+        ]
         # the browser reads at 3 and writes at 4; other shells know no number of two digits
         line = ["bash", "-c", f'exec "$@" 3<&{to_browser} 4>&{from_browser}', "bash", *words]
         self.process = subprocess.Popen(
@@ -68,7 +77,12 @@ class Browser:
     def send(self, method, session=None, **words):
         number = next(self.numbers)
         answer = self.answers[number] = queue.Queue()
-        message = {"id": number, "method": method, "params": words, **({"sessionId": session} if session else {})}
+        message = {
+            "id": number,
+            "method": method,
+            "params": words,
+            **({"sessionId": session} if session else {}),
+        }
         with self.lock:
             os.write(self.to_browser, json.dumps(message).encode() + b"\0")
         told = answer.get(timeout=PATIENCE)
@@ -88,10 +102,15 @@ class Phone:
         self.events = browser.events[self.session] = queue.Queue()
         self.send("Page.enable")
         self.send("Page.setLifecycleEventsEnabled", enabled=True)
-        self.send("Emulation.setDeviceMetricsOverride", width=width, height=height, deviceScaleFactor=1, mobile=True)
+        self.send(
+            "Emulation.setDeviceMetricsOverride", width=width, height=height, deviceScaleFactor=1, mobile=True
+        )
         self.send("Emulation.setTouchEmulationEnabled", enabled=True)
         self.send("Emulation.setScriptExecutionDisabled", value=True)
-        self.send("Emulation.setEmulatedMedia", features=[{"name": "prefers-color-scheme", "value": "dark" if is_dark else "light"}])
+        self.send(
+            "Emulation.setEmulatedMedia",
+            features=[{"name": "prefers-color-scheme", "value": "dark" if is_dark else "light"}],
+        )
         self.send("Network.enable")
         self.send("Network.setExtraHTTPHeaders", headers={"Accept-Language": language})
 
@@ -105,13 +124,17 @@ class Phone:
 
     def loaded(self):
         """Waits until the page is there that was tapped for. A page that loads itself again meanwhile is another one."""
-        self.passed(lambda it: it["method"] == "Page.frameRequestedNavigation" and it["params"]["reason"] in TAPPED)
+        self.passed(
+            lambda it: it["method"] == "Page.frameRequestedNavigation" and it["params"]["reason"] in TAPPED
+        )
         self.passed(lambda it: it["method"] == "Page.loadEventFired")
 
     def go(self, url):
         loader = self.send("Page.navigate", url=url)["loaderId"]
         whole = {"name": "load", "loaderId": loader}
-        self.passed(lambda it: it["method"] == "Page.lifecycleEvent" and whole.items() <= it["params"].items())
+        self.passed(
+            lambda it: it["method"] == "Page.lifecycleEvent" and whole.items() <= it["params"].items()
+        )
 
     def value(self, expression):
         told = self.send("Runtime.evaluate", expression=expression, returnByValue=True)

@@ -53,22 +53,35 @@ class Others:
     def row(self):
         name, columns = self.dice.choice(self.tables)
         chosen = self.dice.sample(columns, self.dice.randint(1, len(columns)))
-        return f"INSERT INTO {name}({', '.join(chosen)}) VALUES ({', '.join('?' * len(chosen))})", [self.dice.choice(VALUES) for _ in chosen]
+        return f"INSERT INTO {name}({', '.join(chosen)}) VALUES ({', '.join('?' * len(chosen))})", [
+            self.dice.choice(VALUES) for _ in chosen
+        ]
 
     def change(self):
         name, columns = self.dice.choice(self.tables)
         if self.dice.random() < 0.3:
             return f"DELETE FROM {name} WHERE rowid % 3 = ?", [self.dice.randrange(3)]
-        return f"UPDATE {name} SET {self.dice.choice(columns)} = ? WHERE rowid % 2 = ?", [self.dice.choice(VALUES), self.dice.randrange(2)]
+        return f"UPDATE {name} SET {self.dice.choice(columns)} = ? WHERE rowid % 2 = ?", [
+            self.dice.choice(VALUES),
+            self.dice.randrange(2),
+        ]
 
     def make(self):
         """A few statements that make something."""
-        return [self.table(), *(self.dice.choice([self.table, self.index, self.view])() for _ in range(self.dice.randint(0, 4)))]
+        return [
+            self.table(),
+            *(
+                self.dice.choice([self.table, self.index, self.view])()
+                for _ in range(self.dice.randint(0, 4))
+            ),
+        ]
 
     def act(self, base):
         """A few statements more. One that a rule of their own tables refuses does nothing."""
         for _ in range(self.dice.randint(1, 6)):
-            what = self.dice.choices([self.row, self.change, self.table, self.index, self.view], [8, 4, 1, 1, 1])[0]()
+            what = self.dice.choices(
+                [self.row, self.change, self.table, self.index, self.view], [8, 4, 1, 1, 1]
+            )[0]()
             statement, values = what if isinstance(what, tuple) else (what, [])
             try:
                 base.execute(statement, values)
@@ -88,7 +101,11 @@ def had_by_others(file):
             shown = ", ".join(f"typeof({it}), {it}" for it in columns)
             rows[name] = base.execute(f"SELECT rowid, {shown} FROM {name} ORDER BY rowid").fetchall()
         has_counts = base.execute("SELECT 1 FROM sqlite_schema WHERE name = 'sqlite_sequence'").fetchall()
-        counts = base.execute("SELECT name, seq FROM sqlite_sequence ORDER BY name").fetchall() if has_counts else []
+        counts = (
+            base.execute("SELECT name, seq FROM sqlite_sequence ORDER BY name").fetchall()
+            if has_counts
+            else []
+        )
         base.close()
     return texts, rows, counts
 
@@ -104,7 +121,12 @@ class Beside:
         """What stands in the file before the event does. In version 1 that is made by SQL, among them."""
         front = self.others.make() if self.dice.random() < 0.8 else []
         if event.version == 1:
-            make_old(self.file, event, others=(front, self.others.make() if self.dice.random() < 0.5 else []), has_log=self.dice.random() < 0.3)
+            make_old(
+                self.file,
+                event,
+                others=(front, self.others.make() if self.dice.random() < 0.5 else []),
+                has_log=self.dice.random() < 0.3,
+            )
             return
         base = sqlite3.connect(self.file, isolation_level=None)
         base.execute(f"PRAGMA journal_mode = {self.dice.choice(['WAL', 'DELETE'])}").fetchall()
@@ -123,7 +145,12 @@ class Beside:
         base.close()
 
     def killed(self, words):
-        with subprocess.Popen([self.program.path, *words], stdin=subprocess.DEVNULL, stdout=subprocess.PIPE, stderr=subprocess.DEVNULL) as ran:
+        with subprocess.Popen(
+            [self.program.path, *words],
+            stdin=subprocess.DEVNULL,
+            stdout=subprocess.PIPE,
+            stderr=subprocess.DEVNULL,
+        ) as ran:
             time.sleep(self.dice.random() * 0.03)
             ran.kill()
             out = ran.stdout.read()
@@ -175,7 +202,11 @@ SEEN = [
 def test_others_are_compared(room, statement, what):
     file = f"{room}/e.event"
     base = sqlite3.connect(file, isolation_level=None)
-    for it in ("CREATE TABLE others(id INTEGER PRIMARY KEY AUTOINCREMENT, c0)", "CREATE INDEX by_c0 ON others(c0)", "CREATE VIEW seen AS SELECT c0 FROM others"):
+    for it in (
+        "CREATE TABLE others(id INTEGER PRIMARY KEY AUTOINCREMENT, c0)",
+        "CREATE INDEX by_c0 ON others(c0)",
+        "CREATE VIEW seen AS SELECT c0 FROM others",
+    ):
         base.execute(it)
     base.execute("INSERT INTO others(c0) VALUES (1)")
     before = had_by_others(file)

@@ -48,7 +48,13 @@ def asked(*cases):
     words = [dict(zip(("texts", "saw", "who"), case)) for case in cases]
     for it in words:
         it["texts"] = [base64.b64encode(text).decode() for text in it["texts"]]
-    ran = subprocess.run(["node", "-e", ASK, f"{TOP}/extras/check_page/core.js"], input=json.dumps(words), capture_output=True, text=True, timeout=PATIENCE)
+    ran = subprocess.run(
+        ["node", "-e", ASK, f"{TOP}/extras/check_page/core.js"],
+        input=json.dumps(words),
+        capture_output=True,
+        text=True,
+        timeout=PATIENCE,
+    )
     assert ran.stderr == ""
     return json.loads(ran.stdout)
 
@@ -87,7 +93,17 @@ def test_the_number_that_was_seen(seven):
 
 @NODE
 def test_what_is_no_text(seven):
-    wrong = [b"", b"\n", b"hello", b"\xef\xbb\xbf" + seven, seven.replace(b"\n", b"\r\n"), seven[:-1], seven + b"end\n", seven.replace(b"P7", b"\xff7"), seven.upper()]
+    wrong = [
+        b"",
+        b"\n",
+        b"hello",
+        b"\xef\xbb\xbf" + seven,
+        seven.replace(b"\n", b"\r\n"),
+        seven[:-1],
+        seven + b"end\n",
+        seven.replace(b"P7", b"\xff7"),
+        seven.upper(),
+    ]
     answers = asked(*(([it],) for it in wrong))
     assert [it["said"][0][0][0] for it in answers] == ["WRONG"] * len(wrong)
     assert all(it["said"][0][0][1].startswith("No text of a round: ") for it in answers)
@@ -99,7 +115,11 @@ def test_names_that_look_like_something_else():
     names = "Bo\u20297,Zed", "results.csv", "Cy\u0085X", '"q"', "drawn.csv", "end", "key 00", *HOSTILE
     text = text_bytes(begun(names), 1, 1, "0" * 64, "3 8 11 17")
     plain = plain_draw.report([plain_draw.Text(text)], True)
-    assert [kind for kind, _ in plain[0][1]] == kinds_of(asked(([text],))[0]["said"])[0] == ["right"] * 4 + ["is that so?"]
+    assert (
+        [kind for kind, _ in plain[0][1]]
+        == kinds_of(asked(([text],))[0]["said"])[0]
+        == ["right"] * 4 + ["is that so?"]
+    )
 
 
 @NODE
@@ -108,7 +128,9 @@ def test_tables_and_standings_are_those_of_the_plain_reading(dice, case):
     texts = drawn_evening(dice, dice.randint(2, 40), dice.randint(1, 6))
     answers = asked(*(([text], "", 1) for text, _ in texts))
     assert [it for it in answers if is_wrong(it["said"])] == []
-    assert [it["standings"] for it in answers] == [[line.split()[:6] for line in event.standings()[1:]] for _, event in texts]
+    assert [it["standings"] for it in answers] == [
+        [line.split()[:6] for line in event.standings()[1:]] for _, event in texts
+    ]
     assert not is_wrong(asked(([text for text, _ in texts],))[0]["said"])
 
 
@@ -117,7 +139,10 @@ def test_ten_thousand_single_changes_are_found(dice, seven):
     """Each by its own reader, or by the text that follows on it."""
     event = begun([f"P{number}" for number in range(1, 8)])
     following = text_bytes(event, 1, 2, plain_draw.sha256(seven), "3 8 11 17")
-    said = [it["said"] for it in asked(*(([changed, following],) for changed in changes(dice, seven, CHANGES + 600)))]
+    said = [
+        it["said"]
+        for it in asked(*(([changed, following],) for changed in changes(dice, seven, CHANGES + 600)))
+    ]
     assert len(said) >= CHANGES
     assert all(map(is_wrong, said))
 
@@ -129,7 +154,9 @@ def test_the_working_of_a_player(dice):
     (answer,) = asked(([text], "", 1))
     lines, merits = answer["working"], event.merits()
     assert lines[0].startswith(f"{event.names[0]} (1): rank ")
-    assert lines[-2].endswith(f"{merits[1][1].numerator}/{merits[1][1].denominator} = {printed(merits[1][1])}")
+    assert lines[-2].endswith(
+        f"{merits[1][1].numerator}/{merits[1][1].denominator} = {printed(merits[1][1])}"
+    )
     assert lines[-1].endswith(f"= {printed(merits[1][3])}")
     assert len(lines) == 4 + len(list(event.played(1)))
 
@@ -148,7 +175,9 @@ def page(opened):
     """The page, from a file, without a network."""
     phone = Phone(opened)
     phone.send("Emulation.setScriptExecutionDisabled", value=False)
-    phone.send("Network.emulateNetworkConditions", offline=True, latency=0, downloadThroughput=0, uploadThroughput=0)
+    phone.send(
+        "Network.emulateNetworkConditions", offline=True, latency=0, downloadThroughput=0, uploadThroughput=0
+    )
     phone.go(f"file://{TOP}/docs/check.html")
     return phone
 
@@ -196,9 +225,24 @@ def test_a_name_is_a_text_and_no_markup(page):
 
 
 def test_it_sends_nothing_and_is_its_sources():
-    ran = subprocess.run([sys.executable, "-B", "-m", "scripts.package.check_page"], cwd=TOP, capture_output=True, text=True)
+    ran = subprocess.run(
+        [sys.executable, "-B", "-m", "scripts.package.check_page"], cwd=TOP, capture_output=True, text=True
+    )
     assert (ran.returncode, ran.stderr) == (0, "")
     with open(f"{TOP}/docs/check.html", encoding="utf-8") as it:
         page = it.read()
     assert "default-src 'none'" in page
-    assert [word for word in ("fetch(", "XMLHttpRequest", "WebSocket", "http://", "https://", "import(", "localStorage", "innerHTML") if word in page] == []
+    assert [
+        word
+        for word in (
+            "fetch(",
+            "XMLHttpRequest",
+            "WebSocket",
+            "http://",
+            "https://",
+            "import(",
+            "localStorage",
+            "innerHTML",
+        )
+        if word in page
+    ] == []

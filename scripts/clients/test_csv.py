@@ -16,7 +16,11 @@ assert MOST_BYTES == 131_072
 
 
 def tally(added, already, why=None):
-    return due([why])[0] if why else 0, b"added %d already %d\n" % (added, already), f"{why}\n".encode() if why else b""
+    return (
+        due([why])[0] if why else 0,
+        b"added %d already %d\n" % (added, already),
+        f"{why}\n".encode() if why else b"",
+    )
 
 
 def bad(what):
@@ -29,9 +33,15 @@ PAIRED = [*ENROLLED, ["enrol", "Cy"], ["enrol", "Di"], ["start"], ["pair", "1", 
 SCORED = PAIRED + [["result", "1", "1", "2", "0", "0"], ["result", "1", "2", "2", "1", "0"]]
 # to the champion
 ENDED = [
-    *(["enrol", f"P{number}"] for number in range(1, 7)), ["start"], ["pair", "1", ZERO],
-    *(["result", "1", table, "2", "0", "0"] for table in "123"), ["drop", "2"], ["cut"],
-    ["playoff", "1", "1", "2", "0", "0"], ["playoff", "1", "2", "1", "2", "0"], ["playoff", "2", "1", "0", "2", "0"],
+    *(["enrol", f"P{number}"] for number in range(1, 7)),
+    ["start"],
+    ["pair", "1", ZERO],
+    *(["result", "1", table, "2", "0", "0"] for table in "123"),
+    ["drop", "2"],
+    ["cut"],
+    ["playoff", "1", "1", "2", "0", "0"],
+    ["playoff", "1", "2", "1", "2", "0"],
+    ["playoff", "2", "1", "0", "2", "0"],
 ]
 
 
@@ -55,7 +65,11 @@ def test_a_list_and_the_same_again(program, file, takes):
     assert takes(b"name\nAna\nBo\nAna\n") == tally(0, 3), "again"
     assert takes(b"names\nAna\n") == bad("heading"), "another heading"
     assert program.run("enrol", file, "Lee, Jo") == due(["ok 3"]), "the serial is 2"
-    assert program.run("export", file, "players") == (0, b'no,name,dropped\n1,Ana,0\n2,Bo,0\n3,"Lee, Jo",0\n', b""), "a name with a comma"
+    assert program.run("export", file, "players") == (
+        0,
+        b'no,name,dropped\n1,Ana,0\n2,Bo,0\n3,"Lee, Jo",0\n',
+        b"",
+    ), "a name with a comma"
     for what, data, want in (
         ("nothing", b"", "heading"),
         ("a number out of place", b"no,name,dropped\n2,Ana,0\n", "row 1"),
@@ -65,12 +79,20 @@ def test_a_list_and_the_same_again(program, file, takes):
     assert program.run("enrol", file, "Eve") == due(["ok 4"]), "and nobody was enrolled"
 
 
-@pytest.mark.parametrize("lines, rows", [
-    (PAIRED, b"1,1,4,2,,,\n1,2,1,3,,,\n"),
-    (SCORED, b"1,1,4,2,2,0,0\n1,2,1,3,2,1,0\n"),
-], ids=["open", "complete"])
+@pytest.mark.parametrize(
+    "lines, rows",
+    [
+        (PAIRED, b"1,1,4,2,,,\n1,2,1,3,,,\n"),
+        (SCORED, b"1,1,4,2,2,0,0\n1,2,1,3,2,1,0\n"),
+    ],
+    ids=["open", "complete"],
+)
 def test_results_of_a_round(program, room, lines, rows):
-    assert program.run("export", program.played(f"{room}/e", lines), "results") == (0, b"round,table,a,b,x,y,d\n" + rows, b"")
+    assert program.run("export", program.played(f"{room}/e", lines), "results") == (
+        0,
+        b"round,table,a,b,x,y,d\n" + rows,
+        b"",
+    )
 
 
 def test_a_bye_stands_last(program, room):
@@ -79,12 +101,18 @@ def test_a_bye_stands_last(program, room):
 
 
 def test_after_the_end(program, room, takes):
-    assert takes(b"name\nEd\n", program.played(f"{room}/ended", ENDED, rounds=1, cut=4)) == tally(0, 0, "refused 4 NotEnrolling")
+    assert takes(b"name\nEd\n", program.played(f"{room}/ended", ENDED, rounds=1, cut=4)) == tally(
+        0, 0, "refused 4 NotEnrolling"
+    )
 
 
 def test_a_byte_order_mark_and_cr_lf(program, file, takes):
     assert takes(b"\xef\xbb\xbfname\r\nAna\r\nBo\r\nAna\r\n") == tally(2, 1)
-    assert program.run("export", file, "players") == (0, b"no,name,dropped\n1,Ana,0\n2,Bo,0\n", b""), "the same list"
+    assert program.run("export", file, "players") == (
+        0,
+        b"no,name,dropped\n1,Ana,0\n2,Bo,0\n",
+        b"",
+    ), "the same list"
 
 
 # ---- lists as people and spreadsheets save them
@@ -143,7 +171,9 @@ def test_drops_are_not_taken_over(program, file, takes):
     assert b"D" not in program.did("players", file).partition(b"\n")[2]
 
 
-@pytest.mark.parametrize("size, want, there", [(MOST_BYTES, tally(1, 0), 1), (MOST_BYTES + 1, CANNOT_READ, 0)])
+@pytest.mark.parametrize(
+    "size, want, there", [(MOST_BYTES, tally(1, 0), 1), (MOST_BYTES + 1, CANNOT_READ, 0)]
+)
 def test_131072_bytes_are_read_and_one_more_is_not(program, file, takes, size, want, there):
     assert takes(b"name\nAna" + b"\n" * (size - 8)) == want
     assert program.did("players", file).count(b"\n") == 1 + there
@@ -160,12 +190,16 @@ def names(room):
 def test_paths(program, room, file, names):
     assert program.run("import", file, f"{room}/none.csv") == CANNOT_READ, "no such list"
     assert program.run("import", file, room) == CANNOT_READ, "a folder"
-    assert program.run("import", f"{room}/none.event", f"{room}/none.csv") == due(["refused 27 NoEvent"]), "no such event comes first"
+    assert program.run("import", f"{room}/none.event", f"{room}/none.csv") == due(
+        ["refused 27 NoEvent"]
+    ), "no such event comes first"
     assert not os.path.exists(f"{room}/none.event"), "no such event, and none is made"
     assert program.run("import", file, file) == bad("heading"), "the event is no list"
     assert program.run("import", names, names) == due(["refused 25 Store"]), "the list is no event"
     assert program.fed(b"name\nAna\n", "import", file, "/dev/stdin") == tally(1, 0), "a pipe"
-    assert program.run("export", f"{room}/none.event", "players") == due(["refused 27 NoEvent"]), "no event to export"
+    assert program.run("export", f"{room}/none.event", "players") == due(
+        ["refused 27 NoEvent"]
+    ), "no event to export"
     status, out, err = program.run("import", file, "-")
     assert (status, out, b"begins with `-`" in err) == (2, b"", True), "a hyphen"
 
@@ -174,11 +208,15 @@ def test_paths(program, room, file, names):
 def test_an_output_that_is_full(program, file, names, name):
     with open("/dev/full", "wb") as full:
         words = [program.path, name, file, names if name == "import" else "players"]
-        ran = subprocess.run(words, stdin=subprocess.DEVNULL, stdout=full, stderr=subprocess.PIPE, timeout=PATIENCE)
+        ran = subprocess.run(
+            words, stdin=subprocess.DEVNULL, stdout=full, stderr=subprocess.PIPE, timeout=PATIENCE
+        )
     assert (ran.returncode, ran.stderr) == (3, b"")
 
 
-@pytest.mark.parametrize("words", ["import", "import NAMES NAMES", "export", "export Players", "export standings"])
+@pytest.mark.parametrize(
+    "words", ["import", "import NAMES NAMES", "export", "export Players", "export standings"]
+)
 def test_usage(program, file, names, words):
     name, *rest = words.split()
     status, out, err = program.run(name, file, *(names if word == "NAMES" else word for word in rest))
@@ -228,7 +266,10 @@ def test_late(program, room, takes):
     assert takes(LATE, open_round) == tally(2, 2), "while a round is open"
     assert takes(LATE, open_round) == tally(0, 4), "and again"
     assert takes(LATE, scored) == tally(2, 2), "once it is complete"
-    assert program.did("export", scored, "players") == b"no,name,dropped\n1,Ana,0\n2,Bo,0\n3,Cy,0\n4,Di,0\n5,Ed,0\n6,Flo,0\n", "who came"
+    assert (
+        program.did("export", scored, "players")
+        == b"no,name,dropped\n1,Ana,0\n2,Bo,0\n3,Cy,0\n4,Di,0\n5,Ed,0\n6,Flo,0\n"
+    ), "who came"
 
 
 @pytest.mark.parametrize("lines", [PAIRED, SCORED], ids=["open", "complete"])
@@ -261,5 +302,10 @@ def test_a_second_list(program, room, file, takes):
 
 
 def test_in_a_script(program):
-    script = b"init\tFriday\t3\t0\nenrol\tAna\nexport\tplayers\nexport\tresults\nimport\tnames.csv\nexport\tall\n"
-    assert program.fed(script)[1] == b"ok 0\nok 1\nno,name,dropped\n1,Ana,0\nround,table,a,b,x,y,d\nusage\nusage\n"
+    script = (
+        b"init\tFriday\t3\t0\nenrol\tAna\nexport\tplayers\nexport\tresults\nimport\tnames.csv\nexport\tall\n"
+    )
+    assert (
+        program.fed(script)[1]
+        == b"ok 0\nok 1\nno,name,dropped\n1,Ana,0\nround,table,a,b,x,y,d\nusage\nusage\n"
+    )

@@ -44,7 +44,10 @@ class DrawnEvening:
 
     def begin(self):
         rule = self.dice.choice(("draw on", "draw on", "draw on 4d20", "draw on once 4d20"))
-        names = [f"enrol P{number}{self.dice.choice(('', ' -x', chr(0x2029) + '7'))}" for number in range(1, self.players + 1)]
+        names = [
+            f"enrol P{number}{self.dice.choice(('', ' -x', chr(0x2029) + '7'))}"
+            for number in range(1, self.players + 1)
+        ]
         self.type(f"init E {self.rounds} 0", *names, rule, "start")
 
     def maybe(self, chance):
@@ -65,12 +68,17 @@ class DrawnEvening:
             tables = [at for at, match in enumerate(event.stored[number - 1], 1) if match[1] and match[2]]
             if tables:
                 score = lawful(self.dice, random_score, is_of_swiss)
-                self.type(f"fix {number} {self.dice.choice(tables)} {' '.join(map(str, score))}", *["y"] * (number < len(event.stored)))
+                self.type(
+                    f"fix {number} {self.dice.choice(tables)} {' '.join(map(str, score))}",
+                    *["y"] * (number < len(event.stored)),
+                )
 
     def stop_somewhere(self, *lines):
         self.open = None
         self.typed.append(f"stopped: {lines}")
-        self.prompt.is_killed(self.file, lines, self.dice.randint(1, MOST_CALLS), self.dice.choice(("pair", "has_number")))
+        self.prompt.is_killed(
+            self.file, lines, self.dice.randint(1, MOST_CALLS), self.dice.choice(("pair", "has_number"))
+        )
 
     def pair(self):
         number = len(self.event.stored) + 1
@@ -105,7 +113,9 @@ class DrawnEvening:
                     self.type(f"{table} {' '.join(score)}")
 
     def go_back(self):
-        copies = sorted(int(name[:4]) for name in os.listdir(f"{self.file}.copies") if "-before-pair-" in name)
+        copies = sorted(
+            int(name[:4]) for name in os.listdir(f"{self.file}.copies") if "-before-pair-" in name
+        )
         if copies:
             self.type(f"back {self.dice.choice(copies)}", "y")
 
@@ -135,7 +145,9 @@ def test_an_honest_evening(program, prompt, dice, room, case, capsys):
     said = capsys.readouterr().out
     texts = [name for name in os.listdir(f"{evening.file}.draws") if name.endswith(".txt")]
     assert (status, "WRONG" in said) == (0, False), "\n".join([*evening.typed, said])
-    assert (not evening.event.stored or said.count("its tables are those that the rules give") == len(texts)), said
+    assert not evening.event.stored or said.count("its tables are those that the rules give") == len(
+        texts
+    ), said
     # what was changed afterwards is found
     for name in texts:
         path = f"{evening.file}.draws/{name}"
@@ -149,4 +161,6 @@ def test_an_honest_evening(program, prompt, dice, room, case, capsys):
         with open(path, "wb") as it:
             it.write(whole)
         # the last text has nothing that follows on it: its digits are on the sheets
-        assert is_found or LINE.match(whole[whole.rindex(b"\n", 0, at) + 1 :].decode()), f"{name}, byte {at}: {shown}"
+        assert is_found or LINE.match(
+            whole[whole.rindex(b"\n", 0, at) + 1 :].decode()
+        ), f"{name}, byte {at}: {shown}"

@@ -14,7 +14,18 @@ from scripts.clients.random_evenings import laid, report_round
 from scripts.clients.waiting import PATIENCE
 from scripts.models import event_check
 from scripts.models.plain_csv import players_rows, results_rows, written
-from scripts.models.plain_draw import FIRST, TOLD, WRONG, NoText, Text, is_number, key_of, read_of, report, sha256
+from scripts.models.plain_draw import (
+    FIRST,
+    TOLD,
+    WRONG,
+    NoText,
+    Text,
+    is_number,
+    key_of,
+    read_of,
+    report,
+    sha256,
+)
 
 CASES = {"case": (25, 1000)}
 SEVEN = [f"P{number}" for number in range(1, 8)]
@@ -83,13 +94,29 @@ def test_keys():
     assert key_of(12, "20 20 20 20") == "c7527eb8a2957183a08e48af68a9f4fb7114935c7686d6ab4b806f18e5b8d444"
     assert key_of(4, "815 4711") == "844f0cbd8d14ebba8077424461a570ce39ad89a55ecb0ace3e005e452b1fbd40"
     assert is_number("815 4711") and is_number(NUMBER) and is_number(" ".join(["1"] * 20))
-    wrong = "4711 815", "17 3 8 11", "0", "07", "1000000", "-1", "\u0661", " ".join(["1"] * 21), "", "1  2", " 1", "1 "
+    wrong = (
+        "4711 815",
+        "17 3 8 11",
+        "0",
+        "07",
+        "1000000",
+        "-1",
+        "\u0661",
+        " ".join(["1"] * 21),
+        "",
+        "1  2",
+        " 1",
+        "1 ",
+    )
     assert [it for it in wrong if is_number(it)] == []
 
 
 def test_the_text_of_seven_players(seven):
     text = Text(seven)
-    assert (text.sum, text.mark) == ("5d014256fdbc02910c032a167689ab331067849aef87354364eb3751b54dde66", "63b9acf9fd09825e956fe9a626a5703aa4a3d003dc9ff309414f1ff866d28902")
+    assert (text.sum, text.mark) == (
+        "5d014256fdbc02910c032a167689ab331067849aef87354364eb3751b54dde66",
+        "63b9acf9fd09825e956fe9a626a5703aa4a3d003dc9ff309414f1ff866d28902",
+    )
     assert text.seats == [[2, 3], [5, 1], [4, 7], [6, 0]]
     again = text_bytes(begun(SEVEN), 1, 2, text.sum, NUMBER)
     assert sha256(again) == "214aae08fca831125c52be78de8a715a51dd9869627c4ab839209364a7e90807"
@@ -97,10 +124,23 @@ def test_the_text_of_seven_players(seven):
     assert (TOLD, "since drawing 1 nothing has changed in its lists") in said_of(seven, again)
 
 
-@pytest.mark.parametrize("word, mark, tables, told", [
-    ("Al", "b6400c6d7f5e8dad3cc4715758add21a00e9379bf4db631b88af8e3645e9d406", [[2, 3], [5, 1], [4, 7], [6, 0]], "player 8 came, and dropped"),
-    ("", "53395867297d3bf14a10c3703f5d75e8bf7644431a0a61386d7666477fcfa629", [[2, 4], [6, 1], [5, 7]], "player 3 dropped"),
-])
+@pytest.mark.parametrize(
+    "word, mark, tables, told",
+    [
+        (
+            "Al",
+            "b6400c6d7f5e8dad3cc4715758add21a00e9379bf4db631b88af8e3645e9d406",
+            [[2, 3], [5, 1], [4, 7], [6, 0]],
+            "player 8 came, and dropped",
+        ),
+        (
+            "",
+            "53395867297d3bf14a10c3703f5d75e8bf7644431a0a61386d7666477fcfa629",
+            [[2, 4], [6, 1], [5, 7]],
+            "player 3 dropped",
+        ),
+    ],
+)
 def test_lists_that_changed_since_the_throw(seven, word, mark, tables, told):
     """The key is the same, and who is otherwise is named."""
     event = begun(SEVEN)
@@ -128,11 +168,21 @@ def is_found(changed, following):
         text = Text(changed)
     except NoText:
         return "reader"
-    return "reader" if any(kind == WRONG for kind, _ in read_of(text)) else "next" if Text(following).after != text.sum else ""
+    return (
+        "reader"
+        if any(kind == WRONG for kind, _ in read_of(text))
+        else "next"
+        if Text(following).after != text.sum
+        else ""
+    )
 
 
 def test_ten_thousand_single_changes_are_found(dice, evening):
-    found = [is_found(changed, evening[at + 1]) for at in (0, 2) for changed in changes(dice, evening[at], CHANGES // 2 + 300)]
+    found = [
+        is_found(changed, evening[at + 1])
+        for at in (0, 2)
+        for changed in changes(dice, evening[at], CHANGES // 2 + 300)
+    ]
     assert len(found) >= CHANGES
     assert "" not in found
     # what stands for itself is found by the texts beside it: drawing, after, by, instead
@@ -144,15 +194,28 @@ def test_texts_that_are_exchanged_left_out_or_written_otherwise(evening):
     # the order in which they are named does not count
     assert wrong_in(*reversed(evening)) == []
     for at in range(len(evening) - 1):
-        assert any("it does not follow on the text before it" in it for it in wrong_in(*evening[:at], *evening[at + 1 :]))
-    for wrong in (evening[0].replace(b"\n", b"\r\n"), b"\xef\xbb\xbf" + evening[0], evening[0] + b"end\n", evening[0] + b"\n", evening[0][:-1], b"", evening[0].upper()):
+        assert any(
+            "it does not follow on the text before it" in it
+            for it in wrong_in(*evening[:at], *evening[at + 1 :])
+        )
+    for wrong in (
+        evening[0].replace(b"\n", b"\r\n"),
+        b"\xef\xbb\xbf" + evening[0],
+        evening[0] + b"end\n",
+        evening[0] + b"\n",
+        evening[0][:-1],
+        b"",
+        evening[0].upper(),
+    ):
         with pytest.raises(NoText):
             Text(wrong)
 
 
 def test_the_first_of_some_texts_may_follow_on_one_that_is_not_here(evening):
     assert wrong_in(*evening[1:], is_whole=False) == []
-    assert (TOLD, f"it follows on a text that is not here, {Text(evening[1]).after[:16]}") in said_of(*evening[1:], is_whole=False)
+    assert (TOLD, f"it follows on a text that is not here, {Text(evening[1]).after[:16]}") in said_of(
+        *evening[1:], is_whole=False
+    )
 
 
 # ---- what somebody might try
@@ -161,13 +224,24 @@ def test_the_first_of_some_texts_may_follow_on_one_that_is_not_here(evening):
 def forged(text, **head):
     """A text with other lines in its head, and with the mark, key and tables that they would give."""
     old = Text(text)
-    words = {"after": old.after, "drawn": old.number, "by": old.by, "instead": old.instead, "drawing": old.drawing, **head}
-    return text_bytes(old.event, old.round, words["drawing"], words["after"], words["drawn"], words["by"], words["instead"])
+    words = {
+        "after": old.after,
+        "drawn": old.number,
+        "by": old.by,
+        "instead": old.instead,
+        "drawing": old.drawing,
+        **head,
+    }
+    return text_bytes(
+        old.event, old.round, words["drawing"], words["after"], words["drawn"], words["by"], words["instead"]
+    )
 
 
 def test_another_number_for_a_second_drawing(seven):
     other = text_bytes(begun(SEVEN), 1, 2, sha256(seven), "5 5 5 5")
-    assert wrong_in(seven, other) == [f"an earlier drawing of round 1 had the number {NUMBER}, and a number is for good"]
+    assert wrong_in(seven, other) == [
+        f"an earlier drawing of round 1 had the number {NUMBER}, and a number is for good"
+    ]
 
 
 def test_a_mistyped_number_is_asked_for(seven):
@@ -179,14 +253,21 @@ def test_a_mistyped_number_is_asked_for(seven):
 def test_a_number_that_was_not_thrown_can_only_be_asked_for(seven):
     """Whoever was there knows. That nobody looks isn't stopped."""
     assert wrong_in(forged(seven, drawn="5 5 5 5")) == []
-    assert ("is that so?", "5 5 5 5 was thrown. Whoever was there knows") in said_of(forged(seven, drawn="5 5 5 5"))
+    assert ("is that so?", "5 5 5 5 was thrown. Whoever was there knows") in said_of(
+        forged(seven, drawn="5 5 5 5")
+    )
 
 
 def test_a_key_of_the_scorekeepers_own(seven):
     old = Text(seven)
     grown = seven.replace(old.key.encode(), b"ab" * 32)
-    assert [it for it in wrong_in(grown) if "key" in it][0] == f"its key does not follow from round 1 and the number {NUMBER}"
-    assert any("KEY CHOSEN BY THE SCOREKEEPER" in words for _, words in said_of(grown.replace(f"number {NUMBER}".encode(), b"number -")))
+    assert [it for it in wrong_in(grown) if "key" in it][
+        0
+    ] == f"its key does not follow from round 1 and the number {NUMBER}"
+    assert any(
+        "KEY CHOSEN BY THE SCOREKEEPER" in words
+        for _, words in said_of(grown.replace(f"number {NUMBER}".encode(), b"number -"))
+    )
 
 
 def test_tables_that_the_scorekeeper_likes_better(seven):
@@ -195,7 +276,9 @@ def test_tables_that_the_scorekeeper_likes_better(seven):
 
 
 def test_lists_that_were_changed_under_their_mark(seven):
-    assert "its lists are not those of its mark, 63b9acf9fd09825e" in wrong_in(seven.replace(b"3,P3,0", b"3,P3,1").replace(b"1,1,2,3,,,", b"1,1,2,3,,,"))
+    assert "its lists are not those of its mark, 63b9acf9fd09825e" in wrong_in(
+        seven.replace(b"3,P3,0", b"3,P3,1").replace(b"1,1,2,3,,,", b"1,1,2,3,,,")
+    )
 
 
 def test_a_round_that_was_played_at_other_tables(evening):
@@ -248,12 +331,19 @@ def test_texts_as_files(checked, files, evening):
     paths = files(*evening)
     status, said = checked(*paths)
     assert (status, "WRONG" in said) == (0, False)
-    assert "round 2, drawing 2" in said and "is that so?: 1 8 11 17 was thrown. Whoever was there knows" in said
-    assert said.endswith("\nChecked: 5 texts of rounds. Nothing is wrong.\n5 questions to those who were there: is that so?\n")
+    assert (
+        "round 2, drawing 2" in said and "is that so?: 1 8 11 17 was thrown. Whoever was there knows" in said
+    )
+    assert said.endswith(
+        "\nChecked: 5 texts of rounds. Nothing is wrong.\n5 questions to those who were there: is that so?\n"
+    )
     status, said = checked(paths[1], paths[0])
     assert (status, "round 2, drawing 1 (" in said) == (0, True)
     status, said = checked(paths[0], paths[3])
-    assert (status, "WRONG: it does not follow on the text before it, round 1, drawing 1" in said) == (1, True)
+    assert (status, "WRONG: it does not follow on the text before it, round 1, drawing 1" in said) == (
+        1,
+        True,
+    )
     assert "\nChecked: 2 texts of rounds. WRONG: round 3, drawing 1. See there.\n" in said
 
 
@@ -300,7 +390,9 @@ def test_an_event_with_what_lies_beside_it(program, checked, room, evening):
     with open(f"{folder}/rule", "w") as it:
         it.write("each 4d20\n")
     with open(f"{folder}/numbers", "w") as it:
-        it.writelines(["round 1 1 8 11 17\n", "round 2 2 8 11 17\n", "round 3 1 1 1 1\n", "round 3 3 8 11 17\n"])
+        it.writelines(
+            ["round 1 1 8 11 17\n", "round 2 2 8 11 17\n", "round 3 1 1 1 1\n", "round 3 3 8 11 17\n"]
+        )
     status, said = checked(file)
     assert status == 1
     assert "WRONG: the number 4 8 11 17 was not kept before the key was made" in said
@@ -319,17 +411,29 @@ def test_an_event_that_was_not_drawn(program, checked, room, dice):
     with open(f"{file}.keys", "w") as it:
         it.write(f"round 1 {'0' * 64}\n")
     status, said = checked(file)
-    assert (status, said) == (0, "round 1 in the event\n  told: KEY CHOSEN BY THE SCOREKEEPER: it has no text\n  right: as the rules pair it by its key\nChecked: 1 round in the event. Nothing is wrong.\n")
+    assert (status, said) == (
+        0,
+        "round 1 in the event\n  told: KEY CHOSEN BY THE SCOREKEEPER: it has no text\n  right: as the rules pair it by its key\nChecked: 1 round in the event. Nothing is wrong.\n",
+    )
     with open(f"{file}.keys", "w") as it:
         it.write("")
     status, said = checked(file)
-    assert (status, unfilled(said).endswith("Checked: 1 round in the event. Not shown to be right: round 1 in the event. See there.")) == (0, True)
+    assert (
+        status,
+        unfilled(said).endswith(
+            "Checked: 1 round in the event. Not shown to be right: round 1 in the event. See there."
+        ),
+    ) == (0, True)
 
 
 def test_standings_and_the_working_behind_them(program, checked, room, dice):
     text, event = drawn_evening(dice, 12, 4)[-1]
     file = laid(program.path, f"{room}/e.event", event, "E")
-    lists = {"players": written(players_rows(event)), "results": written(results_rows(event)), "standings": program.did("standings", file)}
+    lists = {
+        "players": written(players_rows(event)),
+        "results": written(results_rows(event)),
+        "standings": program.did("standings", file),
+    }
     for kind, data in lists.items():
         with open(f"{room}/{kind}", "wb") as it:
             it.write(data)
@@ -341,13 +445,20 @@ def test_standings_and_the_working_behind_them(program, checked, room, dice):
     row = next(line.split() for line in event.standings()[1:] if line.split()[1] == "3")
     assert f"(3): rank {row[0]}. Points: {row[2]}, rounds: " in said
     assert [said.count(f"= {share}") > 0 for share in row[3:6]] == [True] * 3
-    assert said.endswith("\n  no MWP or GWP counts as less than 33\nChecked: 1 list of standings. Nothing is wrong.\n")
+    assert said.endswith(
+        "\n  no MWP or GWP counts as less than 33\nChecked: 1 list of standings. Nothing is wrong.\n"
+    )
     with open(f"{room}/standings", "wb") as it:
         it.write(lists["standings"].replace(b"33.00", b"33.33", 1))
     status, said = checked(f"{room}/players", f"{room}/results", f"{room}/standings")
     assert (status, "WRONG: they are not those of the rules" in said) == (1, True)
     assert unfilled(said).endswith(f"WRONG: standings ({room}/standings). See there.")
-    for words in ((f"{room}/standings",), (f"{room}/players",), (file, "--who", "99"), (f"{room}/players", f"{room}/results", "--who", "0x1")):
+    for words in (
+        (f"{room}/standings",),
+        (f"{room}/players",),
+        (file, "--who", "99"),
+        (f"{room}/players", f"{room}/results", "--who", "0x1"),
+    ):
         if words[-1] == "0x1":
             continue
         assert checked(*words)[0] == 1
@@ -362,5 +473,10 @@ def test_words_that_are_not_understood(room):
 def test_it_calls_nothing_and_needs_nothing_beside_the_standard_library(files, seven):
     """With nothing on the PATH, and without the folders of packages."""
     (path,) = files(seven)
-    ran = subprocess.run([sys.executable, "-S", "-B", f"{TOP}/extras/event-check", path], capture_output=True, env={"PATH": "/nowhere"}, timeout=PATIENCE)
+    ran = subprocess.run(
+        [sys.executable, "-S", "-B", f"{TOP}/extras/event-check", path],
+        capture_output=True,
+        env={"PATH": "/nowhere"},
+        timeout=PATIENCE,
+    )
     assert (ran.returncode, ran.stderr) == (0, b"")

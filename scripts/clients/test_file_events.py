@@ -10,7 +10,16 @@ import tempfile
 
 import pytest
 
-from scripts.clients.event_files import due, has_begun_old, play_migration, play_playoff, rows_alone, rows_of, rows_read, words_of
+from scripts.clients.event_files import (
+    due,
+    has_begun_old,
+    play_migration,
+    play_playoff,
+    rows_alone,
+    rows_of,
+    rows_read,
+    words_of,
+)
 from scripts.models.random_play import random_event, version_of
 
 CASES = {"number": (24, 300)}

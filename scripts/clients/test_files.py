@@ -16,7 +16,19 @@ import tempfile
 import pytest
 
 from scripts import TOP
-from scripts.clients.event_files import as_nobody, by_sqlite, bytes_in, bytes_of, copied, due, event_of_four, make_four, make_old, rows_alone, rows_of
+from scripts.clients.event_files import (
+    as_nobody,
+    by_sqlite,
+    bytes_in,
+    bytes_of,
+    copied,
+    due,
+    event_of_four,
+    make_four,
+    make_old,
+    rows_alone,
+    rows_of,
+)
 from scripts.clients.serving import Serving, hear_interrupts, served
 from scripts.clients.program import laid
 from scripts.clients.transcripts import parts_of
@@ -24,6 +36,7 @@ from scripts.clients.waiting import PATIENCE
 from scripts.models.plain_event import Event
 from scripts.models.plain_log import committed
 from scripts.models.schema import PLAYER2
+
 
 def words_of(line, file):
     name, *rest = line.rstrip(b"\n").split(b"\t")
@@ -78,12 +91,16 @@ def test_paths(program, room):
     """Where FILE is, or is not."""
     assert program.run("players", f"{room}/none") == refused(27, "NoEvent"), "no such file"
     assert os.listdir(room) == [], "no such file, and none is made"
-    assert program.run("init", f"{room}/none/e.event", "Friday", "3", "0") == refused(25, "Store"), "no such folder"
+    assert program.run("init", f"{room}/none/e.event", "Friday", "3", "0") == refused(
+        25, "Store"
+    ), "no such folder"
     assert program.run("players", room) == refused(25, "Store"), "a folder"
     assert program.run("init", room, "Friday", "3", "0") == refused(25, "Store"), "an event in a folder"
-    assert program.run("init", f"{room}/e.event", "Friday", "13", "0") == refused(30, "BadSetup"), "an unlawful event"
+    assert program.run("init", f"{room}/e.event", "Friday", "13", "0") == refused(
+        30, "BadSetup"
+    ), "an unlawful event"
     assert os.listdir(room) == [], "an unlawful event, and no file is made"
-    for name in ("two words.event", "it's \"quoted\".event", "Zürich – 大会.event"):
+    for name in ("two words.event", 'it\'s "quoted".event', "Zürich – 大会.event"):
         assert program.run("players", made(program, f"{room}/{name}")) == SERVED, name
     assert program.run(b"\xff")[0] == 2, "no words at all"
 
@@ -105,12 +122,17 @@ def test_contents(program, room):
     with open(cut, "wb") as it:
         it.write(bytes_of(whole)[:100])
     got = program.run("players", cut)
-    assert (got[1], got in (refused(25, "Store"), refused(27, "NoEvent"), refused(29, "Damaged"))) == (b"", True), "a file cut at 100 bytes"
+    assert (got[1], got in (refused(25, "Store"), refused(27, "NoEvent"), refused(29, "Damaged"))) == (
+        b"",
+        True,
+    ), "a file cut at 100 bytes"
     assert len(bytes_of(cut)) == 100, "a file cut at 100 bytes stays"
     other = by_sqlite(f"{room}/other", "CREATE TABLE note(body TEXT)", "INSERT INTO note VALUES ('chairs')")
     assert program.run("players", other) == refused(27, "NoEvent"), "another program's file"
     assert program.run("players", made(program, other)) == SERVED, "an event in another program's file"
-    assert sqlite3.connect(other).execute("SELECT body FROM note").fetchall() == [("chairs",)], "its own table stays"
+    assert sqlite3.connect(other).execute("SELECT body FROM note").fetchall() == [
+        ("chairs",)
+    ], "its own table stays"
     assert program.run("init", whole, "Saturday", "3", "0") == refused(28, "EventExists"), "a second event"
     assert program.run("players", whole) == SERVED, "a second event changes nothing"
 
@@ -134,14 +156,26 @@ def check_litter(program, what, answers, words, room):
 
 INIT = ("init", "Friday", "3", "0")
 # the command lines that open FILE
-OPENING = [("players",), ("standings",), ("enrol", "Cy"), ("export", "players"), ("serve", "0", "1"), ("import", "/dev/null"), ("migrate",)]
+OPENING = [
+    ("players",),
+    ("standings",),
+    ("enrol", "Cy"),
+    ("export", "players"),
+    ("serve", "0", "1"),
+    ("import", "/dev/null"),
+    ("migrate",),
+]
 
 
 def test_untold(program, room):
     """If the system can't tell whether FILE is there, it is no missing one: a name or a path that is too long, and a path through a file."""
     file = made(program, f"{room}/e.event")
     before = bytes_in(room)
-    for what, path in (("a name of 5,000 letters", "x" * 5_000), ("a path of 5,000 letters", "x/" * 2_500), ("a path through a file", "e.event/x")):
+    for what, path in (
+        ("a name of 5,000 letters", "x" * 5_000),
+        ("a path of 5,000 letters", "x/" * 2_500),
+        ("a path through a file", "e.event/x"),
+    ):
         for name, *rest in (*OPENING, INIT):
             assert program.run(name, f"{room}/{path}", *rest) == refused(25, "Store"), f"{what}, {name}"
     assert bytes_in(room) == before, "where it can't be told, nothing is changed"
@@ -150,7 +184,9 @@ def test_untold(program, room):
 
 def test_litter(program, room):
     """A file that is refused has no log beside it that wasn't there."""
-    store, no_event, damaged, exists = (refused(*it) for it in ((25, "Store"), (27, "NoEvent"), (29, "Damaged"), (28, "EventExists")))
+    store, no_event, damaged, exists = (
+        refused(*it) for it in ((25, "Store"), (27, "NoEvent"), (29, "Damaged"), (28, "EventExists"))
+    )
     text, short = laid(room, "README.md", b"# A text\n" * 900), laid(room, "names.csv", b"name\nAna\n")
     other = by_sqlite(f"{room}/other", "CREATE TABLE note(body TEXT)")
     logged = by_sqlite(f"{room}/logged", "PRAGMA journal_mode = WAL", "CREATE TABLE note(body TEXT)")
@@ -199,13 +235,23 @@ def with_log(file):
 
 def test_logs(program, room):
     """A log that was there before stays, and keeps what is read of it, whatever is answered; and the file of an event that is refused stays as it is."""
-    logs = [("an empty log", b""), ("a log that is none", b"Ana\nBo\n" * 900), ("the log of an event", bytes_of(log_of(with_log(made(program, f"{room}/e")))))]
+    logs = [
+        ("an empty log", b""),
+        ("a log that is none", b"Ana\nBo\n" * 900),
+        ("the log of an event", bytes_of(log_of(with_log(made(program, f"{room}/e"))))),
+    ]
     for what, log in logs:
         for name, *rest in (("players",), INIT):
             with tempfile.TemporaryDirectory() as other:
                 text = laid(other, "text", b"Ana\nBo\n" * 900)
                 laid(other, "text-wal", log)
-                check_litter(program, f"a text beside {what}, {name}", [refused(25, "Store")], (name, text, *rest), other)
+                check_litter(
+                    program,
+                    f"a text beside {what}, {name}",
+                    [refused(25, "Store")],
+                    (name, text, *rest),
+                    other,
+                )
     damaged = with_log(by_sqlite(made(program, f"{room}/damaged"), "UPDATE player2 SET no = 7 WHERE no = 2"))
     other = with_log(by_sqlite(f"{room}/other", "PRAGMA journal_mode = WAL"))
     there = with_log(made(program, f"{room}/there"))
@@ -218,7 +264,10 @@ def test_logs(program, room):
         read = committed(log)
         assert program.run(name, file, *rest) == answer, f"{what} with a log"
         assert bytes_of(file) == before, f"{what} with a log, the file stays"
-        assert (read > 4096, bytes_of(log_of(file))[:read] == log[:read]) == (True, True), f"{what} with a log, what is read of it stays"
+        assert (read > 4096, bytes_of(log_of(file))[:read] == log[:read]) == (
+            True,
+            True,
+        ), f"{what} with a log, what is read of it stays"
     assert program.run("players", there) == SERVED, "the event that is there, with its log"
 
 
@@ -231,11 +280,20 @@ def test_links(program, room):
     os.symlink(file, link)
     assert program.run("enrol", link, "Cy") == due(["ok 3"]), "a link to an event"
     assert os.listdir(here) == ["e.event"], "a link to an event, what lies beside it"
-    assert sorted(os.listdir(away)) == ["friday.event", "friday.event-wal"], "a link to an event, what lies beside the file"
+    assert sorted(os.listdir(away)) == [
+        "friday.event",
+        "friday.event-wal",
+    ], "a link to an event, what lies beside the file"
     assert program.run("players", file)[1].count(b"\n") == 4, "the event without the link"
     assert rows_alone(link) == rows_alone(file), "the event alone"
     os.remove(log_of(file))
-    check_litter(program, "a link to an event that is there", [refused(28, "EventExists")], (INIT[0], link, *INIT[1:]), away)
+    check_litter(
+        program,
+        "a link to an event that is there",
+        [refused(28, "EventExists")],
+        (INIT[0], link, *INIT[1:]),
+        away,
+    )
     text = f"{here}/text"
     os.symlink(laid(away, "README.md", b"# A text\n" * 900), text)
     for folder in (here, away):
@@ -246,7 +304,9 @@ def test_after_sqlite(program, room):
     """An event file that another program has read or written."""
     file = made(program, f"{room}/e.event")
     assert program.run("players", by_sqlite(file, "SELECT * FROM player2")) == SERVED, "read by SQLite"
-    assert program.run("players", by_sqlite(file, "CREATE TABLE note(body TEXT)")) == SERVED, "with a table more"
+    assert (
+        program.run("players", by_sqlite(file, "CREATE TABLE note(body TEXT)")) == SERVED
+    ), "with a table more"
     assert program.run("players", by_sqlite(file, "VACUUM")) == SERVED, "vacuumed"
     assert program.run("start", file) == (0, b"ok 3\n", b""), "goes on"
     full = by_sqlite(made(program, f"{room}/full"), "UPDATE event SET serial = 999999")
@@ -256,7 +316,12 @@ def test_after_sqlite(program, room):
     four = made(program, f"{room}/four")
     for words in (("enrol", four, "Cy"), ("enrol", four, "Di"), ("start", four)):
         program.run(*words)
-    again = by_sqlite(four, "DROP TABLE pairing", pairing, "INSERT INTO pairing VALUES (1, 1, 2, 4, 0, 1, 2, 0, 0), (2, 1, 2, 4, 1, 0, 0, 0, 0)")
+    again = by_sqlite(
+        four,
+        "DROP TABLE pairing",
+        pairing,
+        "INSERT INTO pairing VALUES (1, 1, 2, 4, 0, 1, 2, 0, 0), (2, 1, 2, 4, 1, 0, 0, 0, 0)",
+    )
     for words in (("players", again), ("standings", again), ("pair", again, "3", "0" * 64)):
         assert program.run(*words) == refused(29, "Damaged"), f"a pairing again, {words[0]}"
 
@@ -276,20 +341,42 @@ def test_totals(program, room):
     program.run("result", file, "1", "1", "2", "0", "0")
     assert totals_in(file) == [(it, 0, 0, 0, 0) for it in range(1, 5)], "totals of an open round"
     program.run("result", file, "1", "2", "2", "1", "0")
-    assert totals_in(file) == [(1, 3, 1, 6, 3), (2, 0, 1, 0, 2), (3, 0, 1, 3, 3), (4, 3, 1, 6, 2)], "totals of a complete round"
+    assert totals_in(file) == [
+        (1, 3, 1, 6, 3),
+        (2, 0, 1, 0, 2),
+        (3, 0, 1, 3, 3),
+        (4, 3, 1, 6, 2),
+    ], "totals of a complete round"
     players = program.run("players", file)
     wrong = by_sqlite(shutil.copy(file, f"{room}/wrong"), "UPDATE tally SET points = 4 WHERE no = 4")
     older = by_sqlite(shutil.copy(file, f"{room}/older"), "DROP TABLE tally")
     for name, other in (("a wrong total", wrong), ("no totals", older)):
         rows = bytes_of(other)
-        for words in (("players", other), ("standings", other), ("correct", other, "1", "2", "0", "2", "0"), ("export", other, "results")):
+        for words in (
+            ("players", other),
+            ("standings", other),
+            ("correct", other, "1", "2", "0", "2", "0"),
+            ("export", other, "results"),
+        ):
             assert program.run(*words) == refused(29, "Damaged"), f"{name}, {words[0]}"
         assert bytes_of(other) == rows, f"{name}, the file stays"
-    assert program.run("players", by_sqlite(wrong, "UPDATE tally SET points = 3 WHERE no = 4")) == players, "the right total again"
+    assert (
+        program.run("players", by_sqlite(wrong, "UPDATE tally SET points = 3 WHERE no = 4")) == players
+    ), "the right total again"
     program.run("correct", file, "1", "2", "0", "2", "0")
-    assert totals_in(file) == [(1, 0, 1, 0, 2), (2, 0, 1, 0, 2), (3, 3, 1, 6, 2), (4, 3, 1, 6, 2)], "totals after a correction"
+    assert totals_in(file) == [
+        (1, 0, 1, 0, 2),
+        (2, 0, 1, 0, 2),
+        (3, 3, 1, 6, 2),
+        (4, 3, 1, 6, 2),
+    ], "totals after a correction"
     three = f"{room}/three.event"
-    for words in (("init", three, "Friday", "3", "0"), *(("enrol", three, it) for it in ("Ana", "Bo", "Cy")), ("start", three), ("pair", three, "1", "0" * 64)):
+    for words in (
+        ("init", three, "Friday", "3", "0"),
+        *(("enrol", three, it) for it in ("Ana", "Bo", "Cy")),
+        ("start", three),
+        ("pair", three, "1", "0" * 64),
+    ):
         program.run(*words)
     assert totals_in(three) == [(it, 0, 0, 0, 0) for it in range(1, 4)], "totals with a bye in an open round"
 
@@ -303,19 +390,31 @@ def test_locked(program, room):
     base.execute("COMMIT")
     base.close()
     assert program.run("players", file) == SERVED, "after it"
-    at_once = [subprocess.Popen([program.path, "enrol", file, f"P{it}"], stdout=subprocess.PIPE, stderr=subprocess.PIPE) for it in range(12)]
+    at_once = [
+        subprocess.Popen(
+            [program.path, "enrol", file, f"P{it}"], stdout=subprocess.PIPE, stderr=subprocess.PIPE
+        )
+        for it in range(12)
+    ]
     answers = [(*it.communicate(), it.returncode) for it in at_once]
     taken = sorted(out for out, _, status in answers if status == 0)
-    assert all(err == b"refused 25 Store\n" and status == 3 for out, err, status in answers if status), "at once"
+    assert all(
+        err == b"refused 25 Store\n" and status == 3 for out, err, status in answers if status
+    ), "at once"
     assert taken == sorted(b"ok %d\n" % it for it in range(3, 3 + len(taken))), "each has a serial"
     assert program.run("players", file)[1].count(b"\n") == 3 + len(taken), "each that was taken is there"
     without_log(file)
     inits = [("init", file, "Friday", "3", "0")] * 6
     lines = [*(("enrol", file, f"Q{it}") for it in range(6)), *inits]
-    at_once = [subprocess.Popen([program.path, *words], stdout=subprocess.PIPE, stderr=subprocess.PIPE) for words in lines]
+    at_once = [
+        subprocess.Popen([program.path, *words], stdout=subprocess.PIPE, stderr=subprocess.PIPE)
+        for words in lines
+    ]
     more = [it.communicate()[0] for it in at_once]
     assert [it for it in more[6:] if it] == [], "at once, where there is no log, with ones that are refused"
-    assert program.run("players", file)[1].count(b"\n") == 3 + len(taken) + sum(it != b"" for it in more), "each that was taken is there too"
+    assert program.run("players", file)[1].count(b"\n") == 3 + len(taken) + sum(
+        it != b"" for it in more
+    ), "each that was taken is there too"
 
 
 def test_full_disk(program, room):
@@ -331,7 +430,9 @@ def test_full_disk(program, room):
     four, event = f"{room}/four.event", event_of_four()
     make_four(program.path, four)
     # the log has room for what a result writes, and the file takes a part of the page of its pairings
-    assert program.narrowly(18_000, "result", four, "1", "1", "2", "1", "0") == due(event.report(1, 1, (2, 1, 0), True)), "a close without room"
+    assert program.narrowly(18_000, "result", four, "1", "1", "2", "1", "0") == due(
+        event.report(1, 1, (2, 1, 0), True)
+    ), "a close without room"
     assert os.path.getsize(log_of(four)) > log, "a close without room, the log keeps it"
     assert program.run("slips", four, "1") == due(event.slips(1)), "after a close without room"
     assert rows_alone(four) == rows_of(event), "after a close without room, the file alone"
@@ -373,7 +474,9 @@ def test_rights(program, room):
     before = bytes_in(shut)
     for what, path in (("a file", f"{shut}/e.event"), ("no file", f"{shut}/none")):
         for name, *rest in (*OPENING, INIT):
-            assert by_nobody(name, path, *rest) == refused(25, "Store"), f"{what} in a folder that is shut, {name}"
+            assert by_nobody(name, path, *rest) == refused(
+                25, "Store"
+            ), f"{what} in a folder that is shut, {name}"
     assert bytes_in(shut) == before, "in a folder that is shut, nothing is changed"
 
 
@@ -408,24 +511,41 @@ class Desk:
     """An event of four in a folder, `friday.event`, and what is typed there."""
 
     def __init__(self, program, room):
-        self.program, self.room, self.file, self.event = program, room, f"{room}/friday.event", event_of_four()
+        self.program, self.room, self.file, self.event = (
+            program,
+            room,
+            f"{room}/friday.event",
+            event_of_four(),
+        )
         os.symlink(program.path, f"{room}/event_reporter")
         make_four(program.path, self.file)
 
     def type(self, line):
         """What a line prints to a shell in the folder."""
-        ran = subprocess.run(line, shell=True, cwd=self.room, stdin=subprocess.DEVNULL, stdout=subprocess.PIPE, stderr=subprocess.STDOUT, timeout=PATIENCE)
+        ran = subprocess.run(
+            line,
+            shell=True,
+            cwd=self.room,
+            stdin=subprocess.DEVNULL,
+            stdout=subprocess.PIPE,
+            stderr=subprocess.STDOUT,
+            timeout=PATIENCE,
+        )
         return ran.stdout
 
     def shows(self, what, file, event):
         """The event is in this file, as the program shows it."""
         for name in ("players", "standings"):
-            assert self.type(f"./event_reporter {name} {file}") == due(getattr(event, name)())[1], f"{what}, {name}"
+            assert (
+                self.type(f"./event_reporter {name} {file}") == due(getattr(event, name)())[1]
+            ), f"{what}, {name}"
         assert self.type(f"./event_reporter slips {file} 1") == due(event.slips(1))[1], f"{what}, slips"
 
     def result(self, table):
         answer = self.event.report(1, table, (2, 0, 0), True)
-        assert self.type(f"./event_reporter result friday.event 1 {table} 2 0 0") == due(answer)[1], f"result at table {table}"
+        assert (
+            self.type(f"./event_reporter result friday.event 1 {table} 2 0 0") == due(answer)[1]
+        ), f"result at table {table}"
 
     def serve_and_interrupt(self, table):
         """A score that was handed in, and then Ctrl-C."""
@@ -438,7 +558,9 @@ class Desk:
     def goes_on(self, what, table, event):
         """The file takes the score of this table, and is the event with it then."""
         answer = event.report(1, table, (0, 2, 0), True)
-        assert self.type(f"./event_reporter result friday.event 1 {table} 0 2 0") == due(answer)[1], f"{what}, it goes on"
+        assert (
+            self.type(f"./event_reporter result friday.event 1 {table} 0 2 0") == due(answer)[1]
+        ), f"{what}, it goes on"
         self.shows(f"{what}, and after it", "friday.event", event)
         assert rows_alone(self.file) == rows_of(event), f"{what}, the file alone"
 
@@ -513,31 +635,49 @@ def test_migration(program, room):
     """Worked example 47: worked example 17 in tables of version 1 up to the cut, a migration, and the rest."""
     file = f"{room}/e.event"
     make_old(file, Event(1, 4, 1), name="Friday")
-    (lines,) = (lines for _, lines in parts_of(f"{TOP}/examples/transcripts/worked.txt") if (b"cut\n", ["ok 13"]) in lines)
+    (lines,) = (
+        lines
+        for _, lines in parts_of(f"{TOP}/examples/transcripts/worked.txt")
+        if (b"cut\n", ["ok 13"]) in lines
+    )
     for line, answer in lines[1:]:
         check_line(program, f"worked example 47, {line!r}", line, answer, file)
         if line == b"cut\n" and answer == ["ok 13"]:
             texts = program.run("standings", file), program.run("bracket", file)
-            assert query(file, "SELECT version, serial, (SELECT count(*) FROM player) FROM event") == [(1, 13, 6)], "worked example 47, before"
+            assert query(file, "SELECT version, serial, (SELECT count(*) FROM player) FROM event") == [
+                (1, 13, 6)
+            ], "worked example 47, before"
             for _ in range(2):
                 assert program.run("migrate", file) == due(["ok 13"]), "worked example 47, migrate"
-                assert query(file, "SELECT version, serial, (SELECT count(*) FROM player) FROM event") == [(2, 13, 0)], "worked example 47, behind it"
-                assert (program.run("standings", file), program.run("bracket", file)) == texts, "worked example 47, the same texts"
+                assert query(file, "SELECT version, serial, (SELECT count(*) FROM player) FROM event") == [
+                    (2, 13, 0)
+                ], "worked example 47, behind it"
+                assert (
+                    program.run("standings", file),
+                    program.run("bracket", file),
+                ) == texts, "worked example 47, the same texts"
 
 
-@pytest.mark.parametrize("what, has_log, journal", [("closed", False, "WAL"), ("with a log", True, "WAL"), ("of another journal", False, "DELETE")])
+@pytest.mark.parametrize(
+    "what, has_log, journal",
+    [("closed", False, "WAL"), ("with a log", True, "WAL"), ("of another journal", False, "DELETE")],
+)
 def test_versions(program, room, what, has_log, journal):
     """A file of version 1 goes on as it is, and is moved to version 2, whatever there is of it."""
     file, event = f"{room}/{what}", event_of_four(1)
     make_old(file, event, has_log=has_log)
     if journal == "DELETE":
         by_sqlite(file, "PRAGMA journal_mode = DELETE")
-    assert program.run("result", file, "1", "1", "2", "0", "0") == due(event.report(1, 1, (2, 0, 0), True)), f"version 1, {what}, result"
+    assert program.run("result", file, "1", "1", "2", "0", "0") == due(
+        event.report(1, 1, (2, 0, 0), True)
+    ), f"version 1, {what}, result"
     shows(program, f"version 1, {what}", file, event)
     assert program.run("migrate", file) == due(event.migrate()), f"version 1, {what}, migrate"
     shows(program, f"version 1, {what}, migrated", file, event)
     assert program.run("drop", file, "3") == due(event.drop(3)), f"version 1, {what}, drop"
-    assert program.run("result", file, "1", "2", "0", "2", "0") == due(event.report(1, 2, (0, 2, 0), True)), f"version 1, {what}, result again"
+    assert program.run("result", file, "1", "2", "0", "2", "0") == due(
+        event.report(1, 2, (0, 2, 0), True)
+    ), f"version 1, {what}, result again"
     shows(program, f"version 1, {what}, goes on", file, event)
 
 
@@ -579,15 +719,27 @@ def test_taken(program, room, what, statement):
     assert bytes_of(file) == before, f"{name}, the file stays"
     for text in ("players", "standings"):
         assert program.run(text, file) == due(getattr(event, text)()), f"{name}, {text}"
-    assert program.run("result", file, "1", "1", "2", "0", "0") == due(event.report(1, 1, (2, 0, 0), True)), f"{name}, it goes on"
+    assert program.run("result", file, "1", "1", "2", "0", "0") == due(
+        event.report(1, 1, (2, 0, 0), True)
+    ), f"{name}, it goes on"
     assert query(file, "SELECT version, serial FROM event") == [(1, event.serial)], f"{name}, version 1"
-    assert query(file, "SELECT no, name, dropped FROM player ORDER BY no") == rows_of(event)[1], f"{name}, its players"
+    assert (
+        query(file, "SELECT no, name, dropped FROM player ORDER BY no") == rows_of(event)[1]
+    ), f"{name}, its players"
 
 
 def test_among_others(program, room):
     """A file with tables of another program in front and behind is migrated all the same, and these stay."""
-    note = "CREATE TABLE note(body TEXT)", "INSERT INTO note VALUES ('chairs')", "CREATE VIEW notes AS SELECT body FROM note"
-    badge = "CREATE TABLE badge(no INTEGER PRIMARY KEY, body TEXT)", "CREATE INDEX by_body ON badge(body)", "INSERT INTO badge VALUES (7, 'red')"
+    note = (
+        "CREATE TABLE note(body TEXT)",
+        "INSERT INTO note VALUES ('chairs')",
+        "CREATE VIEW notes AS SELECT body FROM note",
+    )
+    badge = (
+        "CREATE TABLE badge(no INTEGER PRIMARY KEY, body TEXT)",
+        "CREATE INDEX by_body ON badge(body)",
+        "INSERT INTO badge VALUES (7, 'red')",
+    )
     seat = "CREATE TABLE seat(no INTEGER PRIMARY KEY, row TEXT UNIQUE)", "INSERT INTO seat VALUES (1, 'A')"
     file, event = f"{room}/e.event", event_of_four(1)
     make_old(file, event, others=((*note, *badge), seat))
@@ -600,7 +752,9 @@ def test_among_others(program, room):
     assert (query(file, others), query(file, texts)) == before, "among others, their tables stay"
     assert program.run("migrate", file) == due(event.migrate()), "among others, migrate again"
     for table in (1, 2):
-        assert program.run("result", file, "1", str(table), "2", "1", "0") == due(event.report(1, table, (2, 1, 0), True)), "among others, result"
+        assert program.run("result", file, "1", str(table), "2", "1", "0") == due(
+            event.report(1, table, (2, 1, 0), True)
+        ), "among others, result"
     assert program.run("pair", file, "2", "0" * 64) == due(event.pair(2, bytes(32))), "among others, pair"
     assert program.run("slips", file, "2") == due(event.slips(2)), "among others, slips"
     shows(program, "among others, goes on", file, event)
@@ -618,7 +772,9 @@ def test_no_migration(program, room):
     assert program.run("migrate", long) == refused(29, "Damaged"), "ten rounds in version 1"
     assert query(long, "SELECT version, rounds FROM event") == [(1, 10)], "ten rounds in version 1, it stays"
     before = bytes_of(file)
-    assert program.narrowly(0, "migrate", file) == refused(25, "Store"), "migrate on a disk that takes nothing"
+    assert program.narrowly(0, "migrate", file) == refused(
+        25, "Store"
+    ), "migrate on a disk that takes nothing"
     assert bytes_of(file) == before, "migrate on a disk that takes nothing, the file stays"
     shows(program, "migrate on a disk that takes nothing", file, event)
     assert program.run("migrate", file) == due(event.migrate()), "migrate once there is room"
@@ -630,18 +786,39 @@ def test_late(program, room):
     file = f"{room}/e.event"
     make_four(program.path, file)
     assert program.run("enrol", file, "Ed") == due(["ok 7"]), "late, enrol"
-    assert query(file, "SELECT no, joined FROM player2 ORDER BY no") == [(1, 0), (2, 0), (3, 0), (4, 0), (5, 1)], "late, how many rounds were stored"
+    assert query(file, "SELECT no, joined FROM player2 ORDER BY no") == [
+        (1, 0),
+        (2, 0),
+        (3, 0),
+        (4, 0),
+        (5, 1),
+    ], "late, how many rounds were stored"
     assert totals_in(file) == [(it, 0, 0, 0, 0) for it in range(1, 6)], "late, totals while the round is open"
     program.run("result", file, "1", "1", "2", "0", "0")
     assert totals_in(file) == [(it, 0, 0, 0, 0) for it in range(1, 6)], "late, totals while it is open still"
     program.run("result", file, "1", "2", "2", "1", "0")
-    assert totals_in(file) == [(1, 3, 1, 6, 3), (2, 0, 1, 0, 2), (3, 0, 1, 3, 3), (4, 3, 1, 6, 2), (5, 0, 1, 0, 0)], "late, totals once it is complete"
+    assert totals_in(file) == [
+        (1, 3, 1, 6, 3),
+        (2, 0, 1, 0, 2),
+        (3, 0, 1, 3, 3),
+        (4, 3, 1, 6, 2),
+        (5, 0, 1, 0, 0),
+    ], "late, totals once it is complete"
     program.run("correct", file, "1", "2", "0", "2", "0")
-    assert totals_in(file) == [(1, 0, 1, 0, 2), (2, 0, 1, 0, 2), (3, 3, 1, 6, 2), (4, 3, 1, 6, 2), (5, 0, 1, 0, 0)], "late, totals after a correction"
+    assert totals_in(file) == [
+        (1, 0, 1, 0, 2),
+        (2, 0, 1, 0, 2),
+        (3, 3, 1, 6, 2),
+        (4, 3, 1, 6, 2),
+        (5, 0, 1, 0, 0),
+    ], "late, totals after a correction"
     assert program.run("enrol", file, "Flo") == due(["ok 11"]), "late, enrol once more"
     assert totals_in(file)[5:] == [(6, 0, 1, 0, 0)], "late, totals of a round that was complete"
     program.run("pair", file, "2", "0" * 64)
-    assert totals_in(file)[4:] == [(5, 0, 1, 0, 0), (6, 0, 1, 0, 0)], "late, the round that is open has no place in them"
+    assert totals_in(file)[4:] == [
+        (5, 0, 1, 0, 0),
+        (6, 0, 1, 0, 0),
+    ], "late, the round that is open has no place in them"
 
 
 def event_begun(version):
@@ -661,7 +838,9 @@ def event_scored(version):
     return event
 
 
-@pytest.mark.parametrize("what, so_far", [("no round", event_begun), ("an open round", event_of_four), ("a round", event_scored)])
+@pytest.mark.parametrize(
+    "what, so_far", [("no round", event_begun), ("an open round", event_of_four), ("a round", event_scored)]
+)
 def test_late_in_version_1(program, room, what, so_far):
     """Worked example 49: tables of version 1 take nobody late, whether a round is stored or not. The rules come before that, and so does the last serial."""
     event = so_far(1)
@@ -673,7 +852,9 @@ def test_late_in_version_1(program, room, what, so_far):
     shows(program, f"{name}, it stays", file, event)
     full = by_sqlite(shutil.copy(file, f"{file}, full"), "UPDATE event SET serial = 999999")
     assert program.run("enrol", full, "Ed") == refused(23, "SerialFull"), f"{name}, the last serial"
-    assert program.run("enrol", full, "P1") == refused(2, "NameTaken"), f"{name}, the last serial, a name that is taken"
+    assert program.run("enrol", full, "P1") == refused(
+        2, "NameTaken"
+    ), f"{name}, the last serial, a name that is taken"
     assert program.run("migrate", file) == due([f"ok {event.serial}"]), f"{name}, migrate"
     event.migrate()
     assert program.run("enrol", file, "Ed") == due(event.enrol("Ed")), f"{name}, once it is migrated"

@@ -18,16 +18,30 @@ def text_of(module):
 
 def modules_in(folder):
     """Those that pytest doesn't run."""
-    names = (name for name, ending in map(os.path.splitext, sorted(os.listdir(f"{TOP}/scripts/{folder}"))) if ending == ".py")
+    names = (
+        name
+        for name, ending in map(os.path.splitext, sorted(os.listdir(f"{TOP}/scripts/{folder}")))
+        if ending == ".py"
+    )
     return [f"scripts.{folder}.{name}" for name in names if not name.startswith(("test_", "__"))]
 
 
 MODULES = [it for folder in ("bench", "clients", "faults") for it in modules_in(folder)]
-TAKE_WORDS = [it for it in MODULES if "__main__" in text_of(it) and ("given_by(" in text_of(it) or "parse_args(" in text_of(it))]
+TAKE_WORDS = [
+    it
+    for it in MODULES
+    if "__main__" in text_of(it) and ("given_by(" in text_of(it) or "parse_args(" in text_of(it))
+]
 
 
 def run(*words):
-    ran = subprocess.run([sys.executable, "-B", *words], cwd=TOP, stdin=subprocess.DEVNULL, capture_output=True, timeout=PATIENCE)
+    ran = subprocess.run(
+        [sys.executable, "-B", *words],
+        cwd=TOP,
+        stdin=subprocess.DEVNULL,
+        capture_output=True,
+        timeout=PATIENCE,
+    )
     return ran.returncode, ran.stdout.decode(), ran.stderr.decode()
 
 
@@ -36,7 +50,9 @@ def test_an_import_runs_nothing():
     assert run("-c", f"import {', '.join(MODULES)}") == (0, "", "")
 
 
-@pytest.mark.parametrize("module", [pytest.param(it, marks=PAGES) if it.endswith(".pictures") else it for it in TAKE_WORDS])
+@pytest.mark.parametrize(
+    "module", [pytest.param(it, marks=PAGES) if it.endswith(".pictures") else it for it in TAKE_WORDS]
+)
 def test_help(module):
     status, out, err = run("-m", module, "--help")
     assert (status, out.split()[:1], err) == (0, ["usage:"], "")

@@ -19,12 +19,30 @@ import zlib
 import pytest
 
 from scripts.clients.event_files import by_sqlite, due
-from scripts.clients.serving import Serving, free_port, hear_interrupts, received, sent_to_the_end, sent_whole, served
+from scripts.clients.serving import (
+    Serving,
+    free_port,
+    hear_interrupts,
+    received,
+    sent_to_the_end,
+    sent_whole,
+    served,
+)
 from scripts.clients.waiting import PATIENCE
 
 ZERO = "0" * 64
-FRIDAY = [("init", "Friday", "3", "0"), *(("enrol", it) for it in ("Ana", "Bo", "Cy", "Di")), ("start",), ("pair", "1", ZERO)]
-WITH_A_BYE = [("init", "Friday", "3", "0"), *(("enrol", it) for it in ("Ana", "Bo", "Cy")), ("start",), ("pair", "1", ZERO)]
+FRIDAY = [
+    ("init", "Friday", "3", "0"),
+    *(("enrol", it) for it in ("Ana", "Bo", "Cy", "Di")),
+    ("start",),
+    ("pair", "1", ZERO),
+]
+WITH_A_BYE = [
+    ("init", "Friday", "3", "0"),
+    *(("enrol", it) for it in ("Ana", "Bo", "Cy")),
+    ("start",),
+    ("pair", "1", ZERO),
+]
 
 BODY = b'{"a":2,"b":1,"d":0}'
 POST = b"POST /rounds/1/tables/1 HTTP/1.1\r\nContent-Length: 19\r\n\r\n" + BODY
@@ -102,7 +120,9 @@ SLIP_BODY = '{"first":{"name":"Di","no":4},"round":1,"score":null,"second":{"nam
 SLIP = answer("200 OK", SLIP_BODY)
 REPORTED_SLIP = answer("200 OK", SLIP_BODY.replace("null", '{"a":2,"b":1,"d":0}'))
 STANDINGS = without_rounds(["Ana", "Bo", "Cy", "Di"])
-PAIRINGS = text_of(" Tab    A    B Score Names", "   1    4    2 -     Di - Bo", "   2    1    3 -     Ana - Cy")
+PAIRINGS = text_of(
+    " Tab    A    B Score Names", "   1    4    2 -     Di - Bo", "   2    1    3 -     Ana - Cy"
+)
 
 
 # ---- the worked examples
@@ -127,7 +147,9 @@ def test_posted(program, room, made, is_slow):
 
 def test_shown(program, room, made):
     """Worked example 51."""
-    asked(program, "example 51", made(f"{room}/e.event"), (get("/rounds/1/tables/1"), SLIP), (DELETE, NO_DELETE))
+    asked(
+        program, "example 51", made(f"{room}/e.event"), (get("/rounds/1/tables/1"), SLIP), (DELETE, NO_DELETE)
+    )
 
 
 def posted(length, body):
@@ -250,23 +272,72 @@ def test_broken(program, room, made):
 
 def test_answers(program, room, made):
     """Each route and refusal."""
-    shown = [("/standings", STANDINGS), ("/standings?x=/rounds/1", STANDINGS), ("/rounds/1", PAIRINGS), ("/rounds/001/tables/01", SLIP)]
-    missing = [("/rounds/1/tables/3", NO_MATCH), ("/rounds/0", NO_MATCH), ("/rounds/256", NOT_FOUND), ("/rounds/1/", NOT_FOUND)]
+    shown = [
+        ("/standings", STANDINGS),
+        ("/standings?x=/rounds/1", STANDINGS),
+        ("/rounds/1", PAIRINGS),
+        ("/rounds/001/tables/01", SLIP),
+    ]
+    missing = [
+        ("/rounds/1/tables/3", NO_MATCH),
+        ("/rounds/0", NO_MATCH),
+        ("/rounds/256", NOT_FOUND),
+        ("/rounds/1/", NOT_FOUND),
+    ]
     asked(program, "routes", made(f"{room}/four"), *((get(target), want) for target, want in shown + missing))
     methods = answer("405 Method Not Allowed", '{"error":"method not allowed"}', allow="GET, POST")
-    asked(program, "methods", f"{room}/four", (b"PUT /rounds/1/tables/1 HTTP/1.1\r\n\r\n", methods), (b"HEAD /rounds/1 HTTP/1.0\n\n", NO_DELETE))
-    bye = answer("200 OK", '{"first":{"name":"Cy","no":3},"round":1,"score":{"a":2,"b":0,"d":0},"second":null,"table":0}')
+    asked(
+        program,
+        "methods",
+        f"{room}/four",
+        (b"PUT /rounds/1/tables/1 HTTP/1.1\r\n\r\n", methods),
+        (b"HEAD /rounds/1 HTTP/1.0\n\n", NO_DELETE),
+    )
+    bye = answer(
+        "200 OK",
+        '{"first":{"name":"Cy","no":3},"round":1,"score":{"a":2,"b":0,"d":0},"second":null,"table":0}',
+    )
     is_bye = answer("409 Conflict", '{"name":"IsBye","refused":16}')
-    asked(program, "a bye", made(f"{room}/bye", WITH_A_BYE), (get("/rounds/1/tables/0"), bye), (POST.replace(b"tables/1", b"tables/0"), is_bye))
+    asked(
+        program,
+        "a bye",
+        made(f"{room}/bye", WITH_A_BYE),
+        (get("/rounds/1/tables/0"), bye),
+        (POST.replace(b"tables/1", b"tables/0"), is_bye),
+    )
     not_swiss = answer("409 Conflict", '{"name":"NotSwiss","refused":6}')
-    early = [(POST, not_swiss), (get("/rounds/1/tables/1"), NO_MATCH), (get("/rounds/1"), NO_MATCH), (get("/standings"), STANDINGS)]
+    early = [
+        (POST, not_swiss),
+        (get("/rounds/1/tables/1"), NO_MATCH),
+        (get("/rounds/1"), NO_MATCH),
+        (get("/standings"), STANDINGS),
+    ]
     asked(program, "before the start", made(f"{room}/new", FRIDAY[:5]), *early)
     full = made(f"{room}/full")
     by_sqlite(full, "UPDATE event SET serial = 999999")
     serial_full = answer("409 Conflict", '{"name":"SerialFull","refused":23}')
-    asked(program, "the last serial", full, (POST, serial_full), (POST.replace(b'"b":1', b'"b":2'), BAD_SCORE), (get("/rounds/1/tables/1"), SLIP))
-    names = made(f"{room}/names", [("init", "Friday", "1", "0"), ("enrol", 'Zoë "Zo" \\'), ("enrol", "大会</b>"), ("start",), ("pair", "1", ZERO)])
-    quoted = answer("200 OK", '{"first":{"name":"大会</b>","no":2},"round":1,"score":null,"second":{"name":"Zoë \\"Zo\\" \\\\","no":1},"table":1}')
+    asked(
+        program,
+        "the last serial",
+        full,
+        (POST, serial_full),
+        (POST.replace(b'"b":1', b'"b":2'), BAD_SCORE),
+        (get("/rounds/1/tables/1"), SLIP),
+    )
+    names = made(
+        f"{room}/names",
+        [
+            ("init", "Friday", "1", "0"),
+            ("enrol", 'Zoë "Zo" \\'),
+            ("enrol", "大会</b>"),
+            ("start",),
+            ("pair", "1", ZERO),
+        ],
+    )
+    quoted = answer(
+        "200 OK",
+        '{"first":{"name":"大会</b>","no":2},"round":1,"score":null,"second":{"name":"Zoë \\"Zo\\" \\\\","no":1},"table":1}',
+    )
     asked(program, "names", names, (get("/rounds/1/tables/1"), quoted))
 
 
@@ -293,19 +364,36 @@ def test_full_disk(program, room, made):
 def test_words(program, room, made):
     """What `serve` refuses, before it listens."""
     missing, file = f"{room}/none", made(f"{room}/e.event")
-    for words in (("0", "0"), ("0", "1000001"), ("65536", "1"), ("+1", "1"), ("0", "x"), ("0",), ("0", "1", "1")):
+    for words in (
+        ("0", "0"),
+        ("0", "1000001"),
+        ("65536", "1"),
+        ("+1", "1"),
+        ("0", "x"),
+        ("0",),
+        ("0", "1", "1"),
+    ):
         status, out, err = program.run("serve", missing, *words)
         assert (status, out, err.startswith(b"event_reporter: ")) == (2, b"", True), f"serve {words}"
     assert program.run("serve", missing, "0", "1") == due(["refused 27 NoEvent"]), "no such file"
     assert not os.path.exists(missing), "no such file, and none is made"
-    assert subprocess.run([program.path], input=b"serve\t0\t1\n", capture_output=True, timeout=PATIENCE).stdout == b"usage\n", "script"
+    assert (
+        subprocess.run([program.path], input=b"serve\t0\t1\n", capture_output=True, timeout=PATIENCE).stdout
+        == b"usage\n"
+    ), "script"
     with Serving(program.path, file, "00001", "000") as serving:
         assert serving.ask(get("/rounds/1")) == PAIRINGS, "zeros in front"
         assert serving.end() == served(1), "zeros in front, the end"
     with Serving(program.path, file, 1_000_000):
         pass
     with open("/dev/full", "wb") as full:
-        ran = subprocess.run([program.path, "serve", file, "0", "1"], stdin=subprocess.DEVNULL, stdout=full, stderr=subprocess.PIPE, timeout=PATIENCE)
+        ran = subprocess.run(
+            [program.path, "serve", file, "0", "1"],
+            stdin=subprocess.DEVNULL,
+            stdout=full,
+            stderr=subprocess.PIPE,
+            timeout=PATIENCE,
+        )
         assert ran.returncode == 3, "a full output"
 
 
@@ -417,7 +505,9 @@ def test_slow_reader(program, room, made):
     names = [f"N{it}" + "x" * 55 for it in range(1, 513)]
     file = made(f"{room}/e.event", [("init", "Friday", "3", "0"), ("enrol", names[0]), ("enrol", names[1])])
     base = sqlite3.connect(file)
-    base.executemany("INSERT INTO player2 VALUES (?, ?, 0, 0)", [(it, name) for it, name in enumerate(names, 1) if it > 2])
+    base.executemany(
+        "INSERT INTO player2 VALUES (?, ?, 0, 0)", [(it, name) for it, name in enumerate(names, 1) if it > 2]
+    )
     base.executemany("INSERT INTO tally VALUES (?, 0, 0, 0, 0)", [(it,) for it in range(3, len(names) + 1)])
     base.commit()
     base.close()
@@ -444,8 +534,22 @@ def test_python(program, room, made):
     cases = [
         ("GET", "/rounds/1/tables/1", None, 200, "application/json", SLIP_BODY.encode()),
         ("POST", "/rounds/1/tables/1", BODY, 200, "application/json", b'{"serial":7}'),
-        ("POST", "/rounds/1/tables/1", BODY, 409, "application/json", b'{"name":"AlreadyReported","refused":14,"score":{"a":2,"b":1,"d":0}}'),
-        ("GET", "/rounds/1", None, 200, "text/plain; charset=utf-8", PAIRINGS.split(b"\r\n\r\n")[1].replace(b"-     Di", b"2-1-0 Di")),
+        (
+            "POST",
+            "/rounds/1/tables/1",
+            BODY,
+            409,
+            "application/json",
+            b'{"name":"AlreadyReported","refused":14,"score":{"a":2,"b":1,"d":0}}',
+        ),
+        (
+            "GET",
+            "/rounds/1",
+            None,
+            200,
+            "text/plain; charset=utf-8",
+            PAIRINGS.split(b"\r\n\r\n")[1].replace(b"-     Di", b"2-1-0 Di"),
+        ),
         ("GET", "/nope", None, 404, "application/json", b'{"error":"not found"}'),
         ("POST", "/standings", BODY, 405, "application/json", b'{"error":"method not allowed"}'),
     ]
@@ -454,7 +558,11 @@ def test_python(program, room, made):
             client = http.client.HTTPConnection("127.0.0.1", serving.port, timeout=PATIENCE)
             client.request(method, target, body)
             came = client.getresponse()
-            assert [came.status, came.getheader("Content-Type"), came.read()] == want, f"http.client, {method} {target}"
+            assert [
+                came.status,
+                came.getheader("Content-Type"),
+                came.read(),
+            ] == want, f"http.client, {method} {target}"
             client.close()
         assert serving.end() == served(len(cases)), "http.client, the end"
     large, count = ["POST", "/rounds/1/tables/1", b" " * 1_000_000], 20
@@ -463,13 +571,20 @@ def test_python(program, room, made):
             client = http.client.HTTPConnection("127.0.0.1", serving.port, timeout=PATIENCE)
             client.request(*large)
             came = client.getresponse()
-            assert [came.status, came.read()] == [413, b'{"error":"body too large"}'], f"http.client, a megabyte, {it}"
+            assert [came.status, came.read()] == [
+                413,
+                b'{"error":"body too large"}',
+            ], f"http.client, a megabyte, {it}"
             client.close()
         assert serving.end() == served(count), "http.client, megabytes, the end"
 
 
 def curl(serving, target, *words):
-    ran = subprocess.run(["curl", "-s", "--max-time", str(PATIENCE), *words, f"http://127.0.0.1:{serving.port}{target}"], capture_output=True, timeout=PATIENCE)
+    ran = subprocess.run(
+        ["curl", "-s", "--max-time", str(PATIENCE), *words, f"http://127.0.0.1:{serving.port}{target}"],
+        capture_output=True,
+        timeout=PATIENCE,
+    )
     return ran.returncode, ran.stdout
 
 
@@ -504,7 +619,12 @@ def test_jq(program, room, made):
     """jq reads each JSON body."""
     file, at, to_table = made(f"{room}/e.event"), "/rounds/1/tables/1", ["--data", BODY.decode()]
     cases = [
-        ([], at, "[.first.name, .first.no, .second.name, .second.no, .round, .table, .score]", '["Di",4,"Bo",2,1,1,null]'),
+        (
+            [],
+            at,
+            "[.first.name, .first.no, .second.name, .second.no, .round, .table, .score]",
+            '["Di",4,"Bo",2,1,1,null]',
+        ),
         (to_table, at, ".serial", "7"),
         (to_table, at, "[.name, .refused, .score.a, .score.b, .score.d]", '["AlreadyReported",14,2,1,0]'),
         ([], at, ".score", '{"a":2,"b":1,"d":0}'),

@@ -13,7 +13,25 @@ from scripts.models.random_requests import each_oddity, random_request
 CASES = {"number": (7, 215)}
 # how many requests an event is asked at least
 REQUESTS = 90
-NAMES = ["Ana", "Bo", "Cy", "Di", 'Zo"e', "back\\slash", "Zoë", "大会", "</b>", "O'Neil", "{}", "a,b", "%41", "né\u2028w", "😀", "x" * 60, "a  b"]
+NAMES = [
+    "Ana",
+    "Bo",
+    "Cy",
+    "Di",
+    'Zo"e',
+    "back\\slash",
+    "Zoë",
+    "大会",
+    "</b>",
+    "O'Neil",
+    "{}",
+    "a,b",
+    "%41",
+    "né\u2028w",
+    "😀",
+    "x" * 60,
+    "a  b",
+]
 NAMES += ["\u0085", "\ufeffBom", "\\u0041"]
 
 
@@ -67,7 +85,10 @@ class ServedEvent:
         """The scores that are still open, by command lines."""
         for place, (_, _, score) in enumerate(self.event.stored[-1] if self.event.stored else [], 1):
             if not score:
-                self.line(f"result\t{len(self.event.stored)}\t{place}\t2\t1\t0", self.event.report(len(self.event.stored), place, (2, 1, 0), True))
+                self.line(
+                    f"result\t{len(self.event.stored)}\t{place}\t2\t1\t0",
+                    self.event.report(len(self.event.stored), place, (2, 1, 0), True),
+                )
 
     def pair(self):
         seed, number = self.dice.randbytes(32), len(self.event.stored) + 1
@@ -78,7 +99,10 @@ class ServedEvent:
         dice, event = self.dice, self.event
         if dice.random() < 0.3 and event.stored:
             score, number, place = random_score(dice), dice.randint(1, len(event.stored)), dice.randint(0, 3)
-            self.line(f"correct\t{number}\t{place}\t{score[0]}\t{score[1]}\t{score[2]}", event.report(number, place, score, False))
+            self.line(
+                f"correct\t{number}\t{place}\t{score[0]}\t{score[1]}\t{score[2]}",
+                event.report(number, place, score, False),
+            )
         if dice.random() < 0.2:
             self.line("migrate", event.migrate())
         if dice.random() < 0.15:
@@ -87,7 +111,12 @@ class ServedEvent:
         if dice.random() < 0.25:
             name = dice.choice(NAMES)
             self.line(f"enrol\t{name}", event.enrol(name))
-        if event.phase == SWISS and len(event.stored) == event.rounds and not event.is_open() and dice.random() < 0.7:
+        if (
+            event.phase == SWISS
+            and len(event.stored) == event.rounds
+            and not event.is_open()
+            and dice.random() < 0.7
+        ):
             self.line("cut", event.end_rounds())
         elif event.phase == PLAYOFF:
             score = random_playoff_score(dice)

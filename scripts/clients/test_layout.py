@@ -15,15 +15,38 @@ from scripts.clients import pictures
 from scripts.clients.random_evenings import COMPLETE, ENDED, HOSTILE, IN_PLAYOFF, OPEN, STARTED, evening, laid
 from scripts.clients.sheets import BROWSERS
 from scripts.clients.waiting import PATIENCE
-from scripts.models.plain_page import bracket_due, final_due, folded, name_rows, parts_due, standings_due, table_rows
+from scripts.models.plain_page import (
+    bracket_due,
+    final_due,
+    folded,
+    name_rows,
+    parts_due,
+    standings_due,
+    table_rows,
+)
 
 pytestmark = pytest.mark.needs("sheets and boards", module="jinja2", package="python3-jinja2")
 
 
 def browse(browser, room, path, *words):
     """What a browser without a window prints of a page."""
-    line = [browser, "--headless", "--no-sandbox", "--disable-gpu", f"--user-data-dir={room}/browser", *words, f"file://{path}"]
-    return subprocess.run(line, stdin=subprocess.DEVNULL, stdout=subprocess.PIPE, stderr=subprocess.DEVNULL, timeout=PATIENCE, check=True).stdout
+    line = [
+        browser,
+        "--headless",
+        "--no-sandbox",
+        "--disable-gpu",
+        f"--user-data-dir={room}/browser",
+        *words,
+        f"file://{path}",
+    ]
+    return subprocess.run(
+        line,
+        stdin=subprocess.DEVNULL,
+        stdout=subprocess.PIPE,
+        stderr=subprocess.DEVNULL,
+        timeout=PATIENCE,
+        check=True,
+    ).stdout
 
 
 # ---- paper
@@ -46,7 +69,12 @@ class Paper:
         self.boxes = self.read(pdf, "-bbox")
 
     def read(self, pdf, *words):
-        return subprocess.run(["pdftotext", "-enc", "UTF-8", *words, pdf, "-"], capture_output=True, timeout=PATIENCE, check=True).stdout.decode()
+        return subprocess.run(
+            ["pdftotext", "-enc", "UTF-8", *words, pdf, "-"],
+            capture_output=True,
+            timeout=PATIENCE,
+            check=True,
+        ).stdout.decode()
 
     def size(self):
         width, height = re.search(r'<page width="([\d.]+)" height="([\d.]+)"', self.boxes).groups()
@@ -55,18 +83,32 @@ class Paper:
     def outside(self, margin=20):
         """The words that lie nearer to an edge than the margin, in points, or beyond it."""
         width, height = self.size()
-        words = re.findall(r'<word xMin="([-\d.]+)" yMin="([-\d.]+)" xMax="([-\d.]+)" yMax="([-\d.]+)">(.*?)</word>', self.boxes)
+        words = re.findall(
+            r'<word xMin="([-\d.]+)" yMin="([-\d.]+)" xMax="([-\d.]+)" yMax="([-\d.]+)">(.*?)</word>',
+            self.boxes,
+        )
         is_within = (
-            lambda it: margin <= float(it[0]) and float(it[2]) <= width - margin and margin <= float(it[1]) and float(it[3]) <= height - margin
+            lambda it: margin <= float(it[0])
+            and float(it[2]) <= width - margin
+            and margin <= float(it[1])
+            and float(it[3]) <= height - margin
         )
         return [it[4] for it in words if not is_within(it)]
 
     def kinds(self):
         """Which part each sheet is of, by its heading; slips have none, and have signatures."""
-        names = {"bytable": "tables", "byname": "names", "Standingsafter": "standings", "Playoff": "bracket", "Finalranking": "final"}
+        names = {
+            "bytable": "tables",
+            "byname": "names",
+            "Standingsafter": "standings",
+            "Playoff": "bracket",
+            "Finalranking": "final",
+        }
         found = []
         for text in map(joined, self.sheets):
-            found.append("slips" if "signature" in text else next((names[it] for it in names if it in text[:80]), "?"))
+            found.append(
+                "slips" if "signature" in text else next((names[it] for it in names if it in text[:80]), "?")
+            )
         return found
 
 
@@ -80,35 +122,59 @@ def check_paper(name, paper, event, size, parts):
     kinds = paper.kinds()
     width, height = paper.size()
     assert max(abs(width - SIZES[size][0]), abs(height - SIZES[size][1])) <= 1, f"{name}, the paper"
-    assert [it for at, it in enumerate(kinds) if at == 0 or kinds[at - 1] != it] == parts, f"{name}, each part on sheets of its own"
+    assert [
+        it for at, it in enumerate(kinds) if at == 0 or kinds[at - 1] != it
+    ] == parts, f"{name}, each part on sheets of its own"
     assert paper.outside() == [], f"{name}, nothing beyond the margins"
     of = {kind: [joined(text) for text, it in zip(paper.sheets, kinds) if it == kind] for kind in set(kinds)}
     for kind, rows in (
         ("tables", [(it[0] + it[1] + it[2], it[4]) for it in table_rows(event, number)]),
         ("names", [(it[1], it[4]) for it in name_rows(event, number)]),
     ):
-        missing = [it for it in rows if not any(all(joined(word) in text for word in it) for text in of[kind])]
+        missing = [
+            it for it in rows if not any(all(joined(word) in text for word in it) for text in of[kind])
+        ]
         assert missing == [], f"{name}, {kind}, each line whole on one sheet"
-    missing = [it for it in standings_due(event) if not any(joined(it[2]) in text and it[5] in text for text in of["standings"])]
+    missing = [
+        it
+        for it in standings_due(event)
+        if not any(joined(it[2]) in text and it[5] in text for text in of["standings"])
+    ]
     assert missing == [], f"{name}, standings, each line whole on one sheet"
     if "slips" in of:
-        slips = [(f"Round{number}Table{it[0]}", it[2], it[4]) for it in table_rows(event, number) if it[3] and not it[5]]
-        missing = [it for it in slips if not any(all(joined(word) in text for word in it) for text in of["slips"])]
+        slips = [
+            (f"Round{number}Table{it[0]}", it[2], it[4])
+            for it in table_rows(event, number)
+            if it[3] and not it[5]
+        ]
+        missing = [
+            it for it in slips if not any(all(joined(word) in text for word in it) for text in of["slips"])
+        ]
         assert missing == [], f"{name}, slips, each whole on one sheet"
-        assert sum(it.count("signature") for it in of["slips"]) == 2 * len(slips), f"{name}, slips, several a sheet"
+        assert sum(it.count("signature") for it in of["slips"]) == 2 * len(
+            slips
+        ), f"{name}, slips, several a sheet"
         count = -(-len(slips) // 5)
         order = [[slips[at][0] for at in range(sheet, len(slips), count)] for sheet in range(count)]
         texts = [text for text, kind in zip(paper.sheets, kinds) if kind == "slips"]
-        found = [[f"Round{number}Table{table}" for table in re.findall(r"\bTable (\d+)\b", text)] for text in texts]
+        found = [
+            [f"Round{number}Table{table}" for table in re.findall(r"\bTable (\d+)\b", text)] for text in texts
+        ]
         assert found == order, f"{name}, slips, in cutting order"
         assert len(of["slips"]) <= len(slips) // 4 + 1, f"{name}, slips, few sheets"
-        assert all(re.search(r"^printed", text, re.M) for text in texts), f"{name}, slips, when they were printed"
+        assert all(
+            re.search(r"^printed", text, re.M) for text in texts
+        ), f"{name}, slips, when they were printed"
     if "final" in of:
-        missing = [it for it in final_due(event) if not any(joined("".join(it)) in text for text in of["final"])]
+        missing = [
+            it for it in final_due(event) if not any(joined("".join(it)) in text for text in of["final"])
+        ]
         assert missing == [], f"{name}, final ranking, each line whole on one sheet"
     if "bracket" in of:
         seats = bracket_due(event)[1]
-        assert [it for it in seats if joined(it[0]) not in of["bracket"][0]] + of["bracket"][1:] == [], f"{name}, the bracket on one sheet"
+        assert [it for it in seats if joined(it[0]) not in of["bracket"][0]] + of["bracket"][
+            1:
+        ] == [], f"{name}, the bracket on one sheet"
 
 
 @pytest.fixture
@@ -156,12 +222,16 @@ def test_a_list_by_name_on_one_page(sheets, program, room, dice, browser, player
     with open(f"{file}.look", "w") as it:
         it.write("subtitle = Modern, Owls Game Shop\n")
     # as it is printed, with its time
-    text = subprocess.run(sheets.words(file, "--parts", "names"), stdout=subprocess.PIPE, timeout=PATIENCE, check=True).stdout.decode()
+    text = subprocess.run(
+        sheets.words(file, "--parts", "names"), stdout=subprocess.PIPE, timeout=PATIENCE, check=True
+    ).stdout.decode()
     for size in SIZES:
         paper = Paper(browser, room, text, size)
         assert (len(paper.sheets), paper.outside()) == (pages, []), size
         for number, sheet in enumerate(paper.sheets, 1):
-            assert f"{number}/{pages}" in sheet and re.search(r"printed \d{4}-\d\d-\d\d \d\d:\d\d", sheet), size
+            assert f"{number}/{pages}" in sheet and re.search(
+                r"printed \d{4}-\d\d-\d\d \d\d:\d\d", sheet
+            ), size
             assert "Modern, Owls Game Shop" in sheet, size
 
 
@@ -174,11 +244,18 @@ def test_a_row_stands_on_one_line(room, browser, part, players):
     played = pictures.evening(players)
     played.names[:] = [f"Bo{number}" for number in range(1, players + 1)]
     text = pictures.Room(browser, room, room).page(played, [part], is_board=False)
-    words = re.findall(r'<word xMin="[-\d.]+" yMin="([-\d.]+)" xMax="[-\d.]+" yMax="([-\d.]+)">(.*?)</word>', Paper(browser, room, text, "A4").boxes)
+    words = re.findall(
+        r'<word xMin="[-\d.]+" yMin="([-\d.]+)" xMax="[-\d.]+" yMax="([-\d.]+)">(.*?)</word>',
+        Paper(browser, room, text, "A4").boxes,
+    )
     # where letters stand, in most typefaces: of the box of a word a fifth lies below
     lines = [(float(top) + 0.79 * (float(bottom) - float(top)), word) for top, bottom, word in words]
     names = [line for line, word in lines if word.startswith("Bo")]
-    apart = {word: min(abs(line - it) for it in names) for line, word in lines if names[0] - 4 < line < names[-1] + 4}
+    apart = {
+        word: min(abs(line - it) for it in names)
+        for line, word in lines
+        if names[0] - 4 < line < names[-1] + 4
+    }
     assert len(names) == players and {word: points for word, points in apart.items() if points > 0.6} == {}
 
 
@@ -266,7 +343,9 @@ def dumped(browser, room, text, width, height):
     path = f"{room}/screen.html"
     with open(path, "w", encoding="utf-8") as it:
         it.write(text)
-    return browse(browser, room, path, f"--window-size={width},{height}", "--virtual-time-budget=2000", "--dump-dom")
+    return browse(
+        browser, room, path, f"--window-size={width},{height}", "--virtual-time-budget=2000", "--dump-dom"
+    )
 
 
 @functools.lru_cache(maxsize=None)
@@ -291,14 +370,23 @@ def laid_out(browser, room, text, screen=(1920, 1080)):
 
 def named_long(event):
     """The same players with names as long as people have them."""
-    event.names = [f"{FIRST} {'Anna ' * (at % 3)}{LAST} {at}" if at % 2 else f"Bo Sato {at}" for at in range(1, len(event.names) + 1)]
+    event.names = [
+        f"{FIRST} {'Anna ' * (at % 3)}{LAST} {at}" if at % 2 else f"Bo Sato {at}"
+        for at in range(1, len(event.names) + 1)
+    ]
 
 
 def check_layout(part, layout, screen):
     assert [it for it in layout["names"] if it[1] > len(it[0].split())] == [], f"{part}, names"
-    assert (layout["wide"] <= screen[0], layout["high"]) == (True, screen[1]), f"{part}, nothing beside the screen"
+    assert (layout["wide"] <= screen[0], layout["high"]) == (
+        True,
+        screen[1],
+    ), f"{part}, nothing beside the screen"
     assert layout["bottom"] <= screen[1], f"{part}, above the fold"
-    assert (layout["rows"], layout["over"]) == (0, []), f"{part}, nothing is cut, and nothing lies over anything"
+    assert (layout["rows"], layout["over"]) == (
+        0,
+        [],
+    ), f"{part}, nothing is cut, and nothing lies over anything"
     assert layout["smallest"] >= LEAST_LETTERS * screen[0] / 100, f"{part}, letters"
 
 
@@ -393,7 +481,9 @@ def test_the_band_has_room_for_each_logo_and_title(room, browser, logo, words):
     if LOGOS[logo]:
         width, height = LOGOS[logo]
         with open(f"{room}/logo.svg", "w") as it:
-            it.write(f'<svg xmlns="http://www.w3.org/2000/svg" width="{width}" height="{height}"><rect width="{width}" height="{height}"/></svg>')
+            it.write(
+                f'<svg xmlns="http://www.w3.org/2000/svg" width="{width}" height="{height}"><rect width="{width}" height="{height}"/></svg>'
+            )
         look += "logo = logo.svg\n"
     page = pictures.Room(browser, room, room).page(pictures.evening(8), ["tables"], look=look, title=title)
     for screen in SCREENS[:2]:
@@ -485,13 +575,20 @@ def looks_in(browser, room, part, players, screen=(1920, 1080)):
 def test_each_column_has_its_headings(room, browser, part, players):
     """Above their cells, and none where a look has no column."""
     for columns, count in looks_in(browser, room, part, players):
-        assert columns and [it["heads"][: len(HEADS[part])] for it in columns] == [HEADS[part]] * len(columns), "the headings"
+        assert columns and [it["heads"][: len(HEADS[part])] for it in columns] == [HEADS[part]] * len(
+            columns
+        ), "the headings"
         assert [it["beside"] for it in columns] == [[]] * len(columns), "above their cells"
         rows = [len(it["rows"]) for it in columns]
-        assert (sum(rows), min(rows) > 0) == (count, True), "each row beneath headings, and each of them with rows"
+        assert (sum(rows), min(rows) > 0) == (
+            count,
+            True,
+        ), "each row beneath headings, and each of them with rows"
         stripes = [[is_marked for *_, is_marked in it["rows"]] for it in columns]
         assert len({is_first for is_first, *_ in stripes}) == 1, "stripes go on from one column to the next"
-        assert stripes == [[(at % 2 > 0) != stripes[0][0] for at in range(it)] for it in rows], "every second row is marked"
+        assert stripes == [
+            [(at % 2 > 0) != stripes[0][0] for at in range(it)] for it in rows
+        ], "every second row is marked"
 
 
 @pytest.mark.needs("the board on a screen", command=BROWSERS)
@@ -502,7 +599,9 @@ def test_a_column_that_goes_on_with_a_letter_begins_with_it(room, browser, playe
         before = ""
         for column in columns:
             letters = [folded(leads)[:1].upper() for _, leads, _ in column["rows"]]
-            due = [letter if at == 0 or letter != letters[at - 1] else "" for at, letter in enumerate(letters)]
+            due = [
+                letter if at == 0 or letter != letters[at - 1] else "" for at, letter in enumerate(letters)
+            ]
             assert [letter for letter, *_ in column["rows"]] == due
             goes_on += letters[0] == before
             before = letters[-1]
@@ -615,13 +714,17 @@ def test_the_script_runs_under_the_policy_of_the_page(sheets, program, room, dic
     file = laid(program.path, f"{room}/e.event", evening(dice, 9, OPEN, 3, 0), "E")
     path = f"{room}/board.html"
     sheets.printed(file, "--board", "-o", path)
-    shown = browse(browser, room, path, "--window-size=1920,1080", "--virtual-time-budget=1000", "--dump-dom").decode()
+    shown = browse(
+        browser, room, path, "--window-size=1920,1080", "--virtual-time-budget=1000", "--dump-dom"
+    ).decode()
     assert re.search('<html [^>]*class="turns"', shown), "the script has turned it"
     with open(path, encoding="utf-8") as page:
         other = page.read().replace('"use strict";', '"use strict"; ')
     with open(path, "w", encoding="utf-8") as page:
         page.write(other)
-    shown = browse(browser, room, path, "--window-size=1920,1080", "--virtual-time-budget=1000", "--dump-dom").decode()
+    shown = browse(
+        browser, room, path, "--window-size=1920,1080", "--virtual-time-budget=1000", "--dump-dom"
+    ).decode()
     assert 'class="turns"' not in shown, "no other script runs"
 
 
@@ -638,7 +741,11 @@ def test_slips(sheets, program, room, dice, browser, language):
     with open(f"{file}.phones", "w") as it:
         it.write(f"at http://192.168.1.10:8080\nkey {'0' * 64}\nboth no\n")
     _, text, _ = sheets.printed(file, "--parts", "slips", "--title", "W" * 60)
-    found = laid_out(browser, room, text.replace('class="sheets"', 'class="sheets" style="width:186mm;max-width:none;padding:0"'))["all"]
+    found = laid_out(
+        browser,
+        room,
+        text.replace('class="sheets"', 'class="sheets" style="width:186mm;max-width:none;padding:0"'),
+    )["all"]
     assert (len(found["slips"]), len(set(found["slips"]))) == (23, 1), "slips, of one height"
     assert [it for it in found["slip_names"] if it[1] > 2] == [], "slips, names in two lines at most"
     assert (found["inside"], found["over"]) == ([], []), "slips, nothing is cut off"

@@ -12,10 +12,30 @@ import subprocess
 
 import pytest
 
-from scripts.clients.phone_rooms import AT, PHONES, PYTHON, asked, codes_in, made, report_to, results, slips_for, targets
+from scripts.clients.phone_rooms import (
+    AT,
+    PHONES,
+    PYTHON,
+    asked,
+    codes_in,
+    made,
+    report_to,
+    results,
+    slips_for,
+    targets,
+)
 from scripts.clients.program import LOSSY
 from scripts.clients.prompt import LETTERS, check_said
-from scripts.clients.random_evenings import COMPLETE, ENDED, ENROLLING, IN_PLAYOFF, OPEN, STARTED, evening, laid
+from scripts.clients.random_evenings import (
+    COMPLETE,
+    ENDED,
+    ENROLLING,
+    IN_PLAYOFF,
+    OPEN,
+    STARTED,
+    evening,
+    laid,
+)
 from scripts.clients.sheets import BARE
 from scripts.clients.waiting import PATIENCE
 from scripts.models.plain_file import read
@@ -33,7 +53,13 @@ def phones(program):
     """The status, the output and the errors of the command line."""
 
     def run(*words, python=PYTHON):
-        ran = subprocess.run([*python, PHONES, *words, "--program", program.path], stdin=subprocess.DEVNULL, capture_output=True, text=True, timeout=PATIENCE)
+        ran = subprocess.run(
+            [*python, PHONES, *words, "--program", program.path],
+            stdin=subprocess.DEVNULL,
+            capture_output=True,
+            text=True,
+            timeout=PATIENCE,
+        )
         return ran.returncode, ran.stdout, ran.stderr
 
     return run
@@ -44,14 +70,35 @@ def test_words(prompt, phones, program, room):
     file = made(program.path, f"{room}/e.event")
 
     status, text, errors = phones("--help", python=BARE)
-    assert (status, errors, "an evening:" in text, [it for it in text.split("\n") if len(it) > 80]) == (0, "", True, []), "help"
+    assert (status, errors, "an evening:" in text, [it for it in text.split("\n") if len(it) > 80]) == (
+        0,
+        "",
+        True,
+        [],
+    ), "help"
     status, text, errors = phones(file, "--at", "192.168.1.10:8080", python=BARE)
-    assert (status, text, "sudo apt-get install" in errors, "python3-waitress" in errors) == (3, "", True, True), "without packages"
+    assert (status, text, "sudo apt-get install" in errors, "python3-waitress" in errors) == (
+        3,
+        "",
+        True,
+        True,
+    ), "without packages"
     assert not os.path.exists(f"{file}.phones"), "nothing is made then"
-    for name, words in (("no address", ["--at", "ftp://a"]), ("no port", ["--desk", "0"]), ("no port there is", ["--at", "192.168.1.10:99999"]), ("all addresses", ["--at", "0.0.0.0:8080"]), ("no minutes", ["--clock", "601"]), ("both", ["--both", "--one"])):
+    for name, words in (
+        ("no address", ["--at", "ftp://a"]),
+        ("no port", ["--desk", "0"]),
+        ("no port there is", ["--at", "192.168.1.10:99999"]),
+        ("all addresses", ["--at", "0.0.0.0:8080"]),
+        ("no minutes", ["--clock", "601"]),
+        ("both", ["--both", "--one"]),
+    ):
         assert phones(file, *words)[0] == 2, name
     status, text, errors = phones(file, "--clock", "50", python=BARE)
-    assert (status, errors, bool(re.fullmatch(r"50 min, until \d\d:\d\d\n", text))) == (0, "", True), "a clock"
+    assert (status, errors, bool(re.fullmatch(r"50 min, until \d\d:\d\d\n", text))) == (
+        0,
+        "",
+        True,
+    ), "a clock"
     check_said("the prompt shows it", prompt.said(file, "clock"), "50 min, until ")
 
 
@@ -75,13 +122,28 @@ def test_what_is_not_served(phones, program, room):
 def test_prompt(prompt, program, room):
     """What the prompt tells of the phones, what it asks back, and how two scores are settled."""
     file = made(program.path, f"{room}/e.event", 8, 2, 2, [(1, 2, 1, 0), (2, 2, 0, 0), (3, 2, 0, 0)])
-    check_said("no phone yet", prompt.said(file, "phones"), "No phone has handed in.", "event-phones", "--at http://")
+    check_said(
+        "no phone yet", prompt.said(file, "phones"), "No phone has handed in.", "event-phones", "--at http://"
+    )
     first = report_to(program.path, file, 1, "0-2-0", "other", "2-1-0").first
     report_to(program.path, file, 2, "2-0-0", "stored", "2-0-0", [first])
     said = prompt.said(file, "phones")
-    check_said("two scores", said, "1 table open: 4", "Two scores at table 1", "a phone said 0-2. If that is right: fix 1 1 0 2 0", "type it again: fix 1 1 2 1 0")
+    check_said(
+        "two scores",
+        said,
+        "1 table open: 4",
+        "Two scores at table 1",
+        "a phone said 0-2. If that is right: fix 1 1 0 2 0",
+        "type it again: fix 1 1 2 1 0",
+    )
     check_said("who goes home", said, f"({first}) wants to go home after the round: drop {first}")
-    check_said("pair asks back", prompt.said(file, "4 2 0", "pair", "n"), "stored is 2-1, and a phone says 0-2", "Pair all the same?", "Nothing was paired.")
+    check_said(
+        "pair asks back",
+        prompt.said(file, "4 2 0", "pair", "n"),
+        "stored is 2-1, and a phone says 0-2",
+        "Pair all the same?",
+        "Nothing was paired.",
+    )
     said = prompt.said(file, "fix 1 2 1", "phones", f"drop {first}", "y", "phones")
     check_said("the same score settles it", said, "ok ", "wants to go home", "is dropped")
     assert ("Two scores" in said, said.count("wants to go home")) == (False, 1), "it is settled"
@@ -89,13 +151,38 @@ def test_prompt(prompt, program, room):
     assert not ("Two scores" in prompt.said(file, "fix 1 1 2", "phones")), "the other score settles it too"
     report_to(program.path, file, 1, "1-2-0", "wrong", "1-2-0")
     said = prompt.said(file, "phones", "pair", "n")
-    check_said("a wrong score", said, "A wrong score at table 1", "a phone said wrong. Once the right one is known: fix 1 1 X Y", "type it again: fix 1 1 1 2 0", "Pair all the same?", "Nothing was paired.")
+    check_said(
+        "a wrong score",
+        said,
+        "A wrong score at table 1",
+        "a phone said wrong. Once the right one is known: fix 1 1 X Y",
+        "type it again: fix 1 1 1 2 0",
+        "Pair all the same?",
+        "Nothing was paired.",
+    )
     prompt.said(file, "fix 1 2 1", "pair", *(f"{table} 2 0" for table in range(1, 4)))
     report_to(program.path, file, 1, "0-2-0", "other", "2-0-0", number=2)
-    check_said("cut asks back", prompt.said(file, "cut", "n"), "Two scores at table 1", "Cut all the same?", "The playoff was not begun.")
+    check_said(
+        "cut asks back",
+        prompt.said(file, "cut", "n"),
+        "Two scores at table 1",
+        "Cut all the same?",
+        "The playoff was not begun.",
+    )
 
 
-@pytest.mark.parametrize("term", ["dumb", pytest.param("xterm", marks=pytest.mark.needs("news above a menu", module="prompt_toolkit", package="python3-prompt-toolkit"))])
+@pytest.mark.parametrize(
+    "term",
+    [
+        "dumb",
+        pytest.param(
+            "xterm",
+            marks=pytest.mark.needs(
+                "news above a menu", module="prompt_toolkit", package="python3-prompt-toolkit"
+            ),
+        ),
+    ],
+)
 def test_news(prompt, program, room, term):
     """At a terminal what comes in stands above the line that is being typed, which goes on."""
     file = made(program.path, f"{room}/e.event")
@@ -116,11 +203,30 @@ def test_judges_and_notes(prompt, program, room):
     match = report_to(program.path, file, 2, "0-0-0", "calls", "", seat=2)
     said = prompt.said(file, "phones", "judge 2", "phones", "judge 2", "judge 9", "judge")
     caller = f"Player {match.second:03} of the House ({match.second}) calls a judge"
-    check_said("judges", said, caller, "Table 2: a judge has been there.", "No judge is called to table 2", "Round 1 has no table 9", "judge 7, once")
+    check_said(
+        "judges",
+        said,
+        caller,
+        "Table 2: a judge has been there.",
+        "No judge is called to table 2",
+        "Round 1 has no table 9",
+        "judge 7, once",
+    )
     assert said.count("calls a judge") == 1, "told until one has been there"
     said = prompt.said(file, "note", "note 2 +5 min", "note", "note 9 x", "note 2", "note 2 off", "note")
-    check_said("notes", said, "Nothing is noted.", "Table 2: +5 min", "Round 1 has no table 9", "letters after the table", "Table 2 has no note.")
-    assert (said.count("Table 2: +5 min"), said.count("Nothing is noted.")) == (2, 2), "until it is taken away"
+    check_said(
+        "notes",
+        said,
+        "Nothing is noted.",
+        "Table 2: +5 min",
+        "Round 1 has no table 9",
+        "letters after the table",
+        "Table 2 has no note.",
+    )
+    assert (said.count("Table 2: +5 min"), said.count("Nothing is noted.")) == (
+        2,
+        2,
+    ), "until it is taken away"
     prompt.said(file, "note 1 +3 min")
     with open(f"{file}.notes") as it:
         assert re.fullmatch(r"round 1 table 1 players \d+ \d+ \+3 min\n", it.read()), "what lies beside"
@@ -130,17 +236,53 @@ def test_entries(prompt, program, room):
     """Names that players enter by phone: nothing is in the event until they are taken."""
     file = f"{room}/e.event"
     prompt.said(file, "init Friday 3 0", "enrol Ana Lima")
-    check_said("off", prompt.said(file, "entries", "entries take", "entries foo"), "Players can't enter their names now.", "entries on, entries, entries take")
-    check_said("on", prompt.said(file, "entries on", "entries"), "Players enter their names at", "/enter", "No name is there that you have not taken.")
+    check_said(
+        "off",
+        prompt.said(file, "entries", "entries take", "entries foo"),
+        "Players can't enter their names now.",
+        "entries on, entries, entries take",
+    )
+    check_said(
+        "on",
+        prompt.said(file, "entries on", "entries"),
+        "Players enter their names at",
+        "/enter",
+        "No name is there that you have not taken.",
+    )
     entries = Entries(file)
     for name in ("Bo Sato", "ana lima", "Nobody", "Zoë, Kim", "-Cy"):
         entries.add(name, "10.0.0.7")
-    check_said("what came", prompt.said(file, "entries"), "   2 Bo Sato", "   4 Nobody", "   5 Zoë, Kim", "entries take", "entries out 3")
+    check_said(
+        "what came",
+        prompt.said(file, "entries"),
+        "   2 Bo Sato",
+        "   4 Nobody",
+        "   5 Zoë, Kim",
+        "entries take",
+        "entries out 3",
+    )
     said = prompt.said(file, "entries out 4", "entries out 4", "entries take", "y", "n", "players", "entries")
-    check_said("taken", said, "Nobody is struck.", "No name has the number 4", "beside Ana Lima", "Enrol 3 players?", "   3 ana lima")
-    players = [line.split(",", 1)[1] for line in asked(program.path, ["export", file, "players"]).split("\n")[1:-1]]
+    check_said(
+        "taken",
+        said,
+        "Nobody is struck.",
+        "No name has the number 4",
+        "beside Ana Lima",
+        "Enrol 3 players?",
+        "   3 ana lima",
+    )
+    players = [
+        line.split(",", 1)[1] for line in asked(program.path, ["export", file, "players"]).split("\n")[1:-1]
+    ]
     assert players == ["Ana Lima,0", "Bo Sato,0", '"Zoë, Kim",0', "-Cy,0"], "the event"
-    check_said("off asks back", prompt.said(file, "entries off", "n", "entries off", "y", "entries"), "1 name was not taken", "It goes on.", "Nobody can enter a name any more.", "can't enter their names now")
+    check_said(
+        "off asks back",
+        prompt.said(file, "entries off", "n", "entries off", "y", "entries"),
+        "1 name was not taken",
+        "It goes on.",
+        "Nobody can enter a name any more.",
+        "can't enter their names now",
+    )
     assert not os.path.exists(f"{file}.entries"), "what lay beside"
 
 
@@ -150,7 +292,9 @@ def test_entries_are_told(prompt, program, room):
     entries.begin()
     terminal = prompt.terminal(file, env={**LETTERS, "TERM": "dumb"}, python=PYTHON, begins=b"r1> ")
     entries.add("Ana Lima", "10.0.0.7")
-    assert "Entered by phone: 1 name. See: entries" in terminal.read_for(b"See: entries"), "told above the line"
+    assert "Entered by phone: 1 name. See: entries" in terminal.read_for(
+        b"See: entries"
+    ), "told above the line"
 
 
 def test_troubles(prompt, program, room):
@@ -179,7 +323,14 @@ def test_init(prompt, program, room):
             os.unlink(file + ending)
     text = prompt.said(file, "init Sunday 2 0", "clock", "phones")
     kinds = ("phones", "reports", "notes", "entries", "clock")
-    check_said("init", text, "ok 0", *(f"e.event.{kind} was there before" for kind in kinds), "No clock runs.", "No phone has handed in.")
+    check_said(
+        "init",
+        text,
+        "ok 0",
+        *(f"e.event.{kind} was there before" for kind in kinds),
+        "No clock runs.",
+        "No phone has handed in.",
+    )
     aside = sorted(re.sub(r"\.old-.*", "", it) for it in os.listdir(room) if ".old-" in it)
     assert aside == sorted(f"e.event.{kind}" for kind in kinds), "they are put aside"
     assert not (slips_for(file).key == slips_for(f"{file}.none").key), "another key"
@@ -204,7 +355,9 @@ def test_slips(program, room, sheets):
     assert codes_in(slips("--tables", "3")) == codes[1:2], "slips of one table"
     assert slips().count("at 192.168.1.10:8080<") == 3, "an address to type"
     slips_for(file, asks_both=True)
-    seats = [targets(program.path, file, seat)[table].rsplit("/", 1)[1] for table in (2, 3, 4) for seat in (1, 2)]
+    seats = [
+        targets(program.path, file, seat)[table].rsplit("/", 1)[1] for table in (2, 3, 4) for seat in (1, 2)
+    ]
     assert codes_in(slips()) == seats, "a code for each seat"
     if importlib.util.find_spec("segno") is None:
         assert slips().count("<svg") == 0, "without squares"
@@ -237,14 +390,28 @@ class Pages:
         from companions.reports import Reports
 
         self.file = file
-        self.secret, self.cache, self.reports = slips_for(file, asks_both), EventCache(program, file), Reports(file)
+        self.secret, self.cache, self.reports = (
+            slips_for(file, asks_both),
+            EventCache(program, file),
+            Reports(file),
+        )
         assert (self.cache.read(), self.cache.fault) == (True, ""), "the event is read"
         self.site = Site(self.cache, self.reports, self.secret, hosts_of(AT, 8080), ScoreQueue(program, file))
 
     def ask(self, method, target, body=""):
         path, _, query = target.partition("?")
-        environ = {"REQUEST_METHOD": method, "PATH_INFO": path, "QUERY_STRING": query, "HTTP_HOST": "192.168.1.10:8080", "REMOTE_ADDR": "192.168.1.77"}
-        form = {"CONTENT_TYPE": "application/x-www-form-urlencoded", "CONTENT_LENGTH": str(len(body)), "wsgi.input": io.BytesIO(body.encode())}
+        environ = {
+            "REQUEST_METHOD": method,
+            "PATH_INFO": path,
+            "QUERY_STRING": query,
+            "HTTP_HOST": "192.168.1.10:8080",
+            "REMOTE_ADDR": "192.168.1.77",
+        }
+        form = {
+            "CONTENT_TYPE": "application/x-www-form-urlencoded",
+            "CONTENT_LENGTH": str(len(body)),
+            "wsgi.input": io.BytesIO(body.encode()),
+        }
         came = []
         text = b"".join(self.site({**environ, **form}, lambda *head: came.append(head)))
         return int(came[0][0].split()[0]), dict(came[0][1]).get("Location", ""), text.decode()
@@ -272,11 +439,15 @@ def pages_over(program):
 def test_random(program, room, dice, pages_over, way):
     """Pages of random events, as the program reads them: the standings, and who sits at each table."""
     cut = 2 if way in (IN_PLAYOFF, ENDED) else 0
-    event = evening(dice, dice.choice([3, 8, 9, 24, 65]) + cut, way, dice.randint(1, 4), cut, dice.random() < 0.5)
+    event = evening(
+        dice, dice.choice([3, 8, 9, 24, 65]) + cut, way, dice.randint(1, 4), cut, dice.random() < 0.5
+    )
     pages = pages_over(laid(program.path, f"{room}/e.event", event, "E"))
     text = pages.ask("GET", "/standings")[2]
     found = [re.findall(r"<td[^>]*>(.*?)</td>", row) for row in re.findall("<tr>(.*?)</tr>", text, re.S)][1:]
-    assert [(it[0], it[2], it[3]) for it in found] == [(rank, points, " ".join(shares)) for rank, _, _, _, points, *shares in standings_due(event)], "points"
+    assert [(it[0], it[2], it[3]) for it in found] == [
+        (rank, points, " ".join(shares)) for rank, _, _, _, points, *shares in standings_due(event)
+    ], "points"
     assert pages.ask("GET", "/board")[0] == 200, "the board"
     for place, (first, second, score) in enumerate(event.stored[-1] if event.stored else [], 1):
         if second:
@@ -295,7 +466,10 @@ def test_screens(prompt, program, room, pages_over):
     assert results(program.path, file)[1, 1] == "", "looking changed nothing"
     assert (pages.hand_in(1, "2-1-0"), results(program.path, file)[1, 1]) == ((303, aim), "2-1-0"), "taken"
     assert pages.hand_in(1, "2-1-0") == (303, aim), "the same again"
-    assert (pages.hand_in(1, "0-2-0"), results(program.path, file)[1, 1]) == ((303, f"{aim}?said=0-2-0"), "2-1-0"), "another one"
+    assert (pages.hand_in(1, "0-2-0"), results(program.path, file)[1, 1]) == (
+        (303, f"{aim}?said=0-2-0"),
+        "2-1-0",
+    ), "another one"
     check_said("the prompt", prompt.said(file, "phones", "fix 1 0 2", "phones"), "fix 1 1 0 2 0", "ok ")
     # what was stored by the last snapshot is stored no longer
     assert pages.hand_in(1, "2-1-0") == (303, f"{aim}?said=2-1-0"), "the score that was corrected since"
@@ -303,12 +477,24 @@ def test_screens(prompt, program, room, pages_over):
     assert (pages.hand_in(2, "2-2-0")[0], results(program.path, file)[1, 2]) == (409, ""), "no match ends so"
     for table in (2, 3, 4):
         assert pages.hand_in(table, "2-0-0")[0] == 303, f"table {table}"
-    assert [it.outcome for it in pages.reports.all] == ["stored", "same", "other", "settled", "other", "same", "refused 13", *["stored"] * 3], "reports"
+    assert [it.outcome for it in pages.reports.all] == [
+        "stored",
+        "same",
+        "other",
+        "settled",
+        "other",
+        "same",
+        "refused 13",
+        *["stored"] * 3,
+    ], "reports"
     check_said("pair asks back", prompt.said(file, "pair", "y"), "a phone says 2-1", "Pair all the same?")
     pages.cache.read()
     status, _, text = pages.ask("GET", aim)
     assert (status, "This round is over" in text) == (200, True), "a slip of a round before"
-    assert (pages.ask("POST", aim, "s=2-0-0")[0], results(program.path, file)[1, 1]) == (303, "0-2-0"), "it replaces nothing"
+    assert (pages.ask("POST", aim, "s=2-0-0")[0], results(program.path, file)[1, 1]) == (
+        303,
+        "0-2-0",
+    ), "it replaces nothing"
 
 
 @PAGES
@@ -316,13 +502,25 @@ def test_both(prompt, program, room, pages_over):
     """A score is stored once both seats say it, also after a restart; the prompt decides where they differ."""
     file = made(program.path, f"{room}/e.event")
     pages = pages_over(file, asks_both=True)
-    assert (pages.hand_in(1, "2-1-0", 1), results(program.path, file)[1, 1]) == ((303, pages.target(1, 1)), ""), "one seat"
+    assert (pages.hand_in(1, "2-1-0", 1), results(program.path, file)[1, 1]) == (
+        (303, pages.target(1, 1)),
+        "",
+    ), "one seat"
     pages = pages_over(file)
-    assert (pages.hand_in(1, "2-1-0", 2)[0], results(program.path, file)[1, 1]) == (303, "2-1-0"), "the other one"
+    assert (pages.hand_in(1, "2-1-0", 2)[0], results(program.path, file)[1, 1]) == (
+        303,
+        "2-1-0",
+    ), "the other one"
     pages.hand_in(2, "2-0-0", 1)
     pages.hand_in(2, "0-2-0", 2)
     text = prompt.said(file, "phones")
-    check_said("both are shown", text, "Not stored at table 2", "says 2-0. If that is right: 2 2 0 0", "says 0-2. If that is right: 2 0 2 0")
+    check_said(
+        "both are shown",
+        text,
+        "Not stored at table 2",
+        "says 2-0. If that is right: 2 2 0 0",
+        "says 0-2. If that is right: 2 0 2 0",
+    )
     assert results(program.path, file)[1, 2] == "", "nothing is stored"
     text = prompt.said(file, "2 2 0", "phones")
     assert (results(program.path, file)[1, 2], "Two scores" in text) == ("2-0-0", False), "the prompt decides"
@@ -336,7 +534,10 @@ def test_lost(program, room, pages_over, stand_in):
     for table, when in enumerate(("before", "behind"), 1):
         open(f"{file}.{when}", "w").close()
         serial = read(file).serial
-        assert (pages.hand_in(table, "2-1-0"), results(program.path, file)[1, table]) == ((303, pages.target(table)), "2-1-0"), f"killed {when}"
+        assert (pages.hand_in(table, "2-1-0"), results(program.path, file)[1, table]) == (
+            (303, pages.target(table)),
+            "2-1-0",
+        ), f"killed {when}"
         assert read(file).serial == serial + 1, f"killed {when}, the serial"
 
 
@@ -374,10 +575,15 @@ def check_others(program, file, pages, aims):
     assert len(changed_tables) > 8, "others sit at most tables"
     answers = {pages.ask("POST", aims[table], "s=2-0-0")[0] for table in changed_tables[:4]}
     number = pages.cache.now.number
-    assert (answers, {results(program.path, file)[number, table] for table in aims}) == ({503}, {""}), "nothing is handed in for others"
+    assert (answers, {results(program.path, file)[number, table] for table in aims}) == (
+        {503},
+        {""},
+    ), "nothing is handed in for others"
     pages.cache.read()
     assert {table: pages.target(table) for table in aims} == now, "it is read"
-    assert {pages.ask("POST", aims[table], "s=2-0-0")[0] for table in changed_tables} == {404}, "their codes are none now"
+    assert {pages.ask("POST", aims[table], "s=2-0-0")[0] for table in changed_tables} == {
+        404
+    }, "their codes are none now"
     assert pages.hand_in(1, "2-0-0")[0] == 303, "and the new ones are"
 
 

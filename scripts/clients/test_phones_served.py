@@ -73,7 +73,17 @@ def test_beside(prompt, program, room, dice):
 
 
 def second_on(program, file):
-    words = [*PYTHON, PHONES, file, "--at", f"127.0.0.1:{free_port()}", "--desk", str(free_port()), "--program", program.path]
+    words = [
+        *PYTHON,
+        PHONES,
+        file,
+        "--at",
+        f"127.0.0.1:{free_port()}",
+        "--desk",
+        str(free_port()),
+        "--program",
+        program.path,
+    ]
     ran = subprocess.run(words, stdin=subprocess.DEVNULL, capture_output=True, text=True, timeout=PATIENCE)
     assert "Another event-phones serves" in ran.stderr, "what it says"
     return ran.returncode, ran.stderr
@@ -103,7 +113,9 @@ def test_back(prompt, program, room, dice):
         assert lost == [], "none is lost"
         # what was handed in before is to be handed in again, and the pages say so within some seconds
         missing = [table for (_, table), score in results(program.path, file).items() if not score]
-        assert comes(lambda: all(asks_for_a_score(gateway, table, aims[table]) for table in missing)), "the pages ask again"
+        assert comes(
+            lambda: all(asks_for_a_score(gateway, table, aims[table]) for table in missing)
+        ), "the pages ask again"
         again = Burst(gateway, aims, scores).end()
         assert (again.acknowledged, again.others) == (scores, []), "handed in again"
         assert targets(program.path, file) == aims, "the codes are the same"
@@ -139,7 +151,9 @@ def test_lost_codes(program, room):
         for name in os.listdir(room):
             if name.startswith("e.event"):
                 os.rename(f"{room}/{name}", f"{room}/wrong/{name}")
-        assert comes(lambda: "refused 27" in gateway.ask("GET", "/", port=gateway.desk_port)[2], 60), "the event is away"
+        assert comes(
+            lambda: "refused 27" in gateway.ask("GET", "/", port=gateway.desk_port)[2], 60
+        ), "the event is away"
         shutil.copy(f"{room}/wrong/e.event", file)
         assert comes(lambda: kept_secret(file) == kept, 60), "beside the same event it is written again"
         assert gateway.hand_in(aims[1], "2-0-0") == (303, aims[1]), "the codes stay good"
@@ -186,19 +200,41 @@ def test_proxy(program, room):
         gateway.port = next(int(it) for it in listening(gateway.process.pid) if int(it) != gateway.desk_port)
         aims = targets(program.path, file)
         named = {"Host": kept_secret(file).shown_address}
-        assert gateway.ask("POST", aims[1], "s=2-0-0", X_Forwarded_For="203.0.113.9", **named)[0] == 303, "through the proxy"
+        assert (
+            gateway.ask("POST", aims[1], "s=2-0-0", X_Forwarded_For="203.0.113.9", **named)[0] == 303
+        ), "through the proxy"
         assert gateway.ask("GET", "/", Host="evil.example")[0] == 421, "a foreign host"
     with Gateway(program.path, file) as gateway:
-        assert gateway.ask("POST", aims[2], "s=2-0-0", "127.0.0.7", X_Forwarded_For="203.0.113.9", **{"Host": f"127.0.0.1:{gateway.port}"})[0] == 303, "without a proxy"
+        assert (
+            gateway.ask(
+                "POST",
+                aims[2],
+                "s=2-0-0",
+                "127.0.0.7",
+                X_Forwarded_For="203.0.113.9",
+                **{"Host": f"127.0.0.1:{gateway.port}"},
+            )[0]
+            == 303
+        ), "without a proxy"
     with open(f"{file}.reports") as it:
-        assert [json.loads(line)["origin"] for line in it] == ["203.0.113.9", "127.0.0.7"], "where they came from"
+        assert [json.loads(line)["origin"] for line in it] == [
+            "203.0.113.9",
+            "127.0.0.7",
+        ], "where they came from"
 
 
 @pytest.mark.parametrize(
     "kind",
     [
-        pytest.param("caddy", marks=pytest.mark.needs("phones behind caddy", command="caddy", package="caddy")),
-        pytest.param("nginx", marks=pytest.mark.needs("phones behind nginx", command=("nginx", "/usr/sbin/nginx"), package="nginx")),
+        pytest.param(
+            "caddy", marks=pytest.mark.needs("phones behind caddy", command="caddy", package="caddy")
+        ),
+        pytest.param(
+            "nginx",
+            marks=pytest.mark.needs(
+                "phones behind nginx", command=("nginx", "/usr/sbin/nginx"), package="nginx"
+            ),
+        ),
     ],
 )
 def test_behind_proxy(program, room, dice, kind):
@@ -209,13 +245,23 @@ def test_behind_proxy(program, room, dice, kind):
         scores = {it: dice.choice(SCORES) for it in aims}
         # pages on each connection that the proxy keeps, before the scores go over them
         with concurrent.futures.ThreadPoolExecutor(16) as phones:
-            pages = list(phones.map(lambda table: gateway.ask("GET", aims[table], source=address(table))[0], list(aims) * 4))
+            pages = list(
+                phones.map(
+                    lambda table: gateway.ask("GET", aims[table], source=address(table))[0], list(aims) * 4
+                )
+            )
         burst = Burst(gateway, aims, scores).end()
         assert (set(pages), burst.acknowledged, burst.others) == ({200}, scores, []), "each phone is answered"
-        assert gateway.ask("GET", "/", source=address(90), X_Forwarded_For="203.0.113.9")[0] == 200, "a guest who names an address"
-    assert {table: score for (_, table), score in results(program.path, file).items()} == scores, "the file has it"
+        assert (
+            gateway.ask("GET", "/", source=address(90), X_Forwarded_For="203.0.113.9")[0] == 200
+        ), "a guest who names an address"
+    assert {
+        table: score for (_, table), score in results(program.path, file).items()
+    } == scores, "the file has it"
     with open(f"{file}.reports") as it:
-        assert {report["table"]: report["origin"] for report in map(json.loads, it)} == {it: address(it) for it in aims}, "where they came from"
+        assert {report["table"]: report["origin"] for report in map(json.loads, it)} == {
+            it: address(it) for it in aims
+        }, "where they came from"
 
 
 def listening(process):
@@ -236,9 +282,13 @@ def test_only_here(program, room):
     with Gateway(program.path, file) as gateway:
         with open("/proc/net/tcp") as it:
             rows = [line.split() for line in it][1:]
-        places = {row[1] for row in rows if row[3] == "0A" and int(row[1].split(":")[1], 16) == gateway.desk_port}
+        places = {
+            row[1] for row in rows if row[3] == "0A" and int(row[1].split(":")[1], 16) == gateway.desk_port
+        }
         assert places == {f"0100007F:{gateway.desk_port:04X}"}, "listened to on 127.0.0.1 alone"
-        assert gateway.ask("GET", "/", port=gateway.desk_port, Host="rebound.example")[0] == 421, "another host"
+        assert (
+            gateway.ask("GET", "/", port=gateway.desk_port, Host="rebound.example")[0] == 421
+        ), "another host"
         assert gateway.ask("POST", "/", "s=2-0-0", port=gateway.desk_port)[0] == 404, "a POST"
         assert stat.S_IMODE(os.stat(f"{file}.phones").st_mode) == 0o600, "the key is for its owner"
         assert stat.S_IMODE(os.stat(f"{file}.turn").st_mode) == 0o600, "and the turn"
@@ -262,7 +312,11 @@ def test_silent(program, room):
             held = []
             for _ in range(SILENT):
                 with contextlib.suppress(OSError):
-                    held.append(socket.create_connection(("127.0.0.1", gateway.port), timeout=3, source_address=("127.0.9.9", 0)))
+                    held.append(
+                        socket.create_connection(
+                            ("127.0.0.1", gateway.port), timeout=3, source_address=("127.0.9.9", 0)
+                        )
+                    )
             seconds = []
             for at, aim in enumerate(aims[:8]):
                 for it in held if at % 2 else ():
@@ -283,7 +337,11 @@ def listening_clients(port):
     """The clients' ports of connections that the server has open."""
     with open("/proc/net/tcp") as it:
         rows = [line.split() for line in it][1:]
-    return {int(row[2].split(":")[1], 16) for row in rows if row[3] == "01" and int(row[1].split(":")[1], 16) == port}
+    return {
+        int(row[2].split(":")[1], 16)
+        for row in rows
+        if row[3] == "01" and int(row[1].split(":")[1], 16) == port
+    }
 
 
 # ---- bytes
@@ -295,33 +353,95 @@ def head(*lines):
 
 def odd_requests(host, target):
     """Requests that are faulty or of two meanings, each with the score of a table that is open; and which statuses may come. None stores anything."""
-    post, form, body = f"POST {target} HTTP/1.1", "Content-Type: application/x-www-form-urlencoded", b"s=2-0-0"
+    post, form, body = (
+        f"POST {target} HTTP/1.1",
+        "Content-Type: application/x-www-form-urlencoded",
+        b"s=2-0-0",
+    )
     whole = head(post, f"Host: {host}", form, "Content-Length: 7") + body
     bad = {400}
     return [
-        ("two lengths", head(post, f"Host: {host}", form, "Content-Length: 7", "Content-Length: 8") + body + b"x", bad),
-        ("two lengths in a line", head(post, f"Host: {host}", form, "Content-Length: 7, 8") + body + b"x", bad),
+        (
+            "two lengths",
+            head(post, f"Host: {host}", form, "Content-Length: 7", "Content-Length: 8") + body + b"x",
+            bad,
+        ),
+        (
+            "two lengths in a line",
+            head(post, f"Host: {host}", form, "Content-Length: 7, 8") + body + b"x",
+            bad,
+        ),
         ("a length below none", head(post, f"Host: {host}", form, "Content-Length: -7") + body, bad),
         ("a length with a sign", head(post, f"Host: {host}", form, "Content-Length: +7") + body, bad),
         ("a length in hexadecimals", head(post, f"Host: {host}", form, "Content-Length: 0x7") + body, bad),
-        ("a length and chunks", head(post, f"Host: {host}", form, "Content-Length: 0", "Transfer-Encoding: chunked") + b"7\r\n" + body + b"\r\n0\r\n\r\n", bad),
-        ("chunks", head(post, f"Host: {host}", form, "Transfer-Encoding: chunked") + b"7\r\n" + body + b"\r\n0\r\n\r\n", bad),
-        ("another encoding", head(post, f"Host: {host}", form, "Transfer-Encoding: gzip, chunked") + body, {400, 501}),
+        (
+            "a length and chunks",
+            head(post, f"Host: {host}", form, "Content-Length: 0", "Transfer-Encoding: chunked")
+            + b"7\r\n"
+            + body
+            + b"\r\n0\r\n\r\n",
+            bad,
+        ),
+        (
+            "chunks",
+            head(post, f"Host: {host}", form, "Transfer-Encoding: chunked")
+            + b"7\r\n"
+            + body
+            + b"\r\n0\r\n\r\n",
+            bad,
+        ),
+        (
+            "another encoding",
+            head(post, f"Host: {host}", form, "Transfer-Encoding: gzip, chunked") + body,
+            {400, 501},
+        ),
         ("no host", head(post, form, "Content-Length: 7") + body, {400, 421}),
-        ("two hosts", head(post, f"Host: {host}", "Host: evil.example", form, "Content-Length: 7") + body, {400, 421}),
+        (
+            "two hosts",
+            head(post, f"Host: {host}", "Host: evil.example", form, "Content-Length: 7") + body,
+            {400, 421},
+        ),
         ("a space before the colon", head(post, f"Host: {host}", form, "Content-Length : 7") + body, bad),
-        ("a line that goes on", head(post, f"Host: {host}", form, "X: a", " b", "Content-Length: 8") + body, {400, ""}),
+        (
+            "a line that goes on",
+            head(post, f"Host: {host}", form, "X: a", " b", "Content-Length: 8") + body,
+            {400, ""},
+        ),
         ("a NUL in the head", head(post, f"Host: {host}\0", form, "Content-Length: 7") + body, {400, 421}),
-        ("a long line", head(post, f"Host: {host}", f"X: {'a' * 9000}", form, "Content-Length: 7") + body, {400, 431}),
-        ("a long target", head(f"POST {target}?{'a' * 9000} HTTP/1.1", f"Host: {host}", form, "Content-Length: 7") + body, {400, 431}),
-        ("a long body", head(post, f"Host: {host}", form, "Content-Length: 100000") + b"a" * 3000, {400, 413}),
-        ("another version", head(f"POST {target} HTTP/9.9", f"Host: {host}", form, "Content-Length: 7") + body, {400, 505}),
+        (
+            "a long line",
+            head(post, f"Host: {host}", f"X: {'a' * 9000}", form, "Content-Length: 7") + body,
+            {400, 431},
+        ),
+        (
+            "a long target",
+            head(f"POST {target}?{'a' * 9000} HTTP/1.1", f"Host: {host}", form, "Content-Length: 7") + body,
+            {400, 431},
+        ),
+        (
+            "a long body",
+            head(post, f"Host: {host}", form, "Content-Length: 100000") + b"a" * 3000,
+            {400, 413},
+        ),
+        (
+            "another version",
+            head(f"POST {target} HTTP/9.9", f"Host: {host}", form, "Content-Length: 7") + body,
+            {400, 505},
+        ),
         ("no version", f"POST {target}\r\n\r\n".encode() + body, {400, 421}),
-        ("spaces", head(f"POST  {target}  HTTP/1.1", f"Host: {host}", form, "Content-Length: 7") + body, {400, 404, 405}),
+        (
+            "spaces",
+            head(f"POST  {target}  HTTP/1.1", f"Host: {host}", form, "Content-Length: 7") + body,
+            {400, 404, 405},
+        ),
         ("TRACE", head(f"TRACE {target} HTTP/1.1", f"Host: {host}"), {400, 405, 501}),
         ("CONNECT", head(f"CONNECT {host} HTTP/1.1", f"Host: {host}"), {400, 404, 405, 501}),
         ("half a request", whole[:-3], {"", 400}),
-        ("of another site", head(post, f"Host: {host}", "Origin: http://evil.example", form, "Content-Length: 7") + body, {403}),
+        (
+            "of another site",
+            head(post, f"Host: {host}", "Origin: http://evil.example", form, "Content-Length: 7") + body,
+            {403},
+        ),
     ]
 
 
@@ -368,7 +488,9 @@ def test_a_strict_parser_judges(judge):
 
 def exchanged(gateway, data, source, shut=True):
     """All that is answered to these bytes, and whether the connection ended."""
-    with socket.create_connection(("127.0.0.1", gateway.port), timeout=PATIENCE, source_address=(source, 0)) as client:
+    with socket.create_connection(
+        ("127.0.0.1", gateway.port), timeout=PATIENCE, source_address=(source, 0)
+    ) as client:
         sent_whole(client, data)
         if shut:
             with contextlib.suppress(OSError):
@@ -388,8 +510,19 @@ def test_faulty_requests(program, room, judge):
             assert got in allowed, name
         assert rows_alone(file) == before, "none of them stored anything"
         # a second request that hides in the body of the first
-        hidden = head(f"POST {aims[2]} HTTP/1.1", f"Host: {host}", "Content-Type: application/x-www-form-urlencoded", "Content-Length: 7") + b"s=0-2-0"
-        first = head("GET / HTTP/1.1", f"Host: {host}", f"Content-Length: {len(hidden)}", "Content-Length: 0") + hidden
+        hidden = (
+            head(
+                f"POST {aims[2]} HTTP/1.1",
+                f"Host: {host}",
+                "Content-Type: application/x-www-form-urlencoded",
+                "Content-Length: 7",
+            )
+            + b"s=0-2-0"
+        )
+        first = (
+            head("GET / HTTP/1.1", f"Host: {host}", f"Content-Length: {len(hidden)}", "Content-Length: 0")
+            + hidden
+        )
         exchanged(gateway, first, address(70))
         assert results(program.path, file)[1, 2] == "", "nothing is smuggled in"
 
@@ -400,10 +533,23 @@ def test_streams(request, program, room, dice, judge):
     with Gateway(program.path, file) as gateway:
         host, aims = f"127.0.0.1:{gateway.port}", targets(program.path, file)
         spoilt = aims[3][:-2] + "AA"
-        whole = [head("GET / HTTP/1.1", f"Host: {host}"), head(f"POST {spoilt} HTTP/1.1", f"Host: {host}", "Content-Type: application/x-www-form-urlencoded", "Content-Length: 7") + b"s=2-0-0"]
+        whole = [
+            head("GET / HTTP/1.1", f"Host: {host}"),
+            head(
+                f"POST {spoilt} HTTP/1.1",
+                f"Host: {host}",
+                "Content-Type: application/x-www-form-urlencoded",
+                "Content-Length: 7",
+            )
+            + b"s=2-0-0",
+        ]
         failed, odd = 0, []
         for at in range(STREAMS[request.config.option.long]):
-            data = bytes(dice.getrandbits(8) for _ in range(dice.randrange(1500))) if at % 2 else changed(dice, dice.choice(whole))
+            data = (
+                bytes(dice.getrandbits(8) for _ in range(dice.randrange(1500)))
+                if at % 2
+                else changed(dice, dice.choice(whole))
+            )
             answered = exchanged(gateway, data, address(100 + at % 20000))
             came = judge.statuses(answered)
             failed += came is not None and 500 in came
@@ -424,7 +570,19 @@ def changed(dice, data):
     for _ in range(dice.randrange(1, 6)):
         at = dice.randrange(len(data))
         piece = bytes(dice.getrandbits(8) for _ in range(4))
-        data[at : at + dice.randrange(3)] = dice.choice([b"", b"\r\n", b"\n", b"\0", b"%00", piece, b"A" * 3000, b"Transfer-Encoding: chunked\r\n", b"Content-Length: 9\r\n"])
+        data[at : at + dice.randrange(3)] = dice.choice(
+            [
+                b"",
+                b"\r\n",
+                b"\n",
+                b"\0",
+                b"%00",
+                piece,
+                b"A" * 3000,
+                b"Transfer-Encoding: chunked\r\n",
+                b"Content-Length: 9\r\n",
+            ]
+        )
     return bytes(data)
 
 
@@ -447,7 +605,9 @@ def test_guesses(program, room, dice, guessing):
         assert comes(lambda: len(tried) > 20 + 2 * guessing), "twenty wrong codes"
         begun, before = time.monotonic(), tried.count(404)
         for table in aims:
-            assert gateway.hand_in(aims[table], "2-0-0", "127.0.8.8")[0] == 303, f"a player behind the same address, table {table}"
+            assert (
+                gateway.hand_in(aims[table], "2-0-0", "127.0.8.8")[0] == 303
+            ), f"a player behind the same address, table {table}"
         rate = (tried.count(404) - before) / max(1.0, time.monotonic() - begun)
         stop.set()
         for it in threads:

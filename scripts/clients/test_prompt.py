@@ -35,7 +35,9 @@ def test_an_evening_through_a_terminal(prompt, room):
     """With completion, history and Ctrl-C; Ctrl-D ends it."""
     file = f"{room}/friday.event"
     terminal = prompt.terminal(file)
-    check_said("the beginning", terminal.began, "friday.event is new. Begin with", "init Friday 6 8", "desk> ")
+    check_said(
+        "the beginning", terminal.began, "friday.event is new. Begin with", "init Friday 6 8", "desk> "
+    )
     played = TypedEvening(file, terminal.send)
     played.enrol()
     terminal.keys("who Zo\t\r")
@@ -77,7 +79,9 @@ def test_menus(prompt, started):
     """
     _, file = started("Ana Lima", "Bo Sato", "Cy Young", "Di Ito")
     prompt.said(file, "pair")
-    terminal = prompt.terminal(file, env={**LETTERS, "TERM": "xterm"}, python=(sys.executable, "-B"), begins=b"r1>")
+    terminal = prompt.terminal(
+        file, env={**LETTERS, "TERM": "xterm"}, python=(sys.executable, "-B"), begins=b"r1>"
+    )
     terminal.keys("who sat")
     assert "Bo Sato (2)" in terminal.read_for(b"Bo Sato (2)"), "what is offered"
     terminal.keys("\t\r")
@@ -86,7 +90,10 @@ def test_menus(prompt, started):
     assert "all its scores" in terminal.read_for(b"all its scores"), "pasted lines are no answer"
     assert terminal.end()[0] == 0, "the end"
     event = read(file)
-    assert (event.dropped, [score for _, _, score in event.stored[0]]) == (set(), [(2, 0, 0), (2, 1, 0)]), "the file"
+    assert (event.dropped, [score for _, _, score in event.stored[0]]) == (
+        set(),
+        [(2, 0, 0), (2, 1, 0)],
+    ), "the file"
 
 
 class ShownEvening:
@@ -95,7 +102,14 @@ class ShownEvening:
     pair = "pair"
 
     def __init__(self, terminal, file):
-        self.terminal, self.file, self.said, self.line, self.shown, self.typed = terminal, file, terminal.began, "", [], 0
+        self.terminal, self.file, self.said, self.line, self.shown, self.typed = (
+            terminal,
+            file,
+            terminal.began,
+            "",
+            [],
+            0,
+        )
 
     def check(self, *pieces):
         """What the line before was answered."""
@@ -103,7 +117,9 @@ class ShownEvening:
         self.shown = []
 
     def type(self, line):
-        self.said = self.terminal.send(re.sub("^pair(?= [0-9]+$|$)", self.pair, line.replace("examples/", f"{TOP}/examples/")))
+        self.said = self.terminal.send(
+            re.sub("^pair(?= [0-9]+$|$)", self.pair, line.replace("examples/", f"{TOP}/examples/"))
+        )
 
     def read(self, line):
         """A line of README."""
@@ -137,7 +153,11 @@ class ShownEvening:
             self.score()
 
     def score(self):
-        still_open = [table for table, (_, second, score) in enumerate(read(self.file).stored[-1], 1) if second and not score]
+        still_open = [
+            table
+            for table, (_, second, score) in enumerate(read(self.file).stored[-1], 1)
+            if second and not score
+        ]
         for table in still_open:
             self.type(f"{table} 2 0")
 
@@ -154,7 +174,9 @@ def test_the_evening_of_the_readme(prompt, room, extras):
         evening.read(line)
     assert (evening.line, evening.typed) == ("quit", 14)
     assert terminal.end("quit\r")[0] == 0
-    ran = subprocess.run([sys.executable, "-B", f"{extras}/event-check", file], capture_output=True, timeout=PATIENCE)
+    ran = subprocess.run(
+        [sys.executable, "-B", f"{extras}/event-check", file], capture_output=True, timeout=PATIENCE
+    )
     assert ran.stdout.decode().endswith(f"\n{check}")
 
 

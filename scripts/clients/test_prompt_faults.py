@@ -24,19 +24,57 @@ def test_faults(prompt, program, started, stand_in, extras):
     event, file = started("Ana", "Bo")
     os.mkdir(f"{file}.keys")
     text = prompt.said(file, "pair", "standings")
-    check_said("keys that can't be read", text, ".keys: Is a directory", ".keys: Is a directory. See: where", *event.standings())
-    assert (len(read(file).stored), os.listdir(f"{file}.copies")) == (0, []), "keys that can't be read, nothing is paired"
+    check_said(
+        "keys that can't be read",
+        text,
+        ".keys: Is a directory",
+        ".keys: Is a directory. See: where",
+        *event.standings(),
+    )
+    assert (len(read(file).stored), os.listdir(f"{file}.copies")) == (
+        0,
+        [],
+    ), "keys that can't be read, nothing is paired"
     os.rmdir(f"{file}.keys")
-    check_said("a NUL in a name", prompt.said(file, "import a\0b.csv", "enrol a\0b", "where"), "is no name of a file", "a NUL is no command", "no round is paired yet")
-    broken = stand_in('[ "$1 $3" = "export players" ] && { printf "no,name,dropped\\n1,An"; exit 0; }\nexec "$REAL" "$@"')
+    check_said(
+        "a NUL in a name",
+        prompt.said(file, "import a\0b.csv", "enrol a\0b", "where"),
+        "is no name of a file",
+        "a NUL is no command",
+        "no round is paired yet",
+    )
+    broken = stand_in(
+        '[ "$1 $3" = "export players" ] && { printf "no,name,dropped\\n1,An"; exit 0; }\nexec "$REAL" "$@"'
+    )
     status, text = prompt.typed(file, "who ana", "standings", by=broken)
-    check_said("a list that ends in the middle", text, "or its answer was cut off: it ends in the middle of a line", *event.standings())
+    check_said(
+        "a list that ends in the middle",
+        text,
+        "or its answer was cut off: it ends in the middle of a line",
+        *event.standings(),
+    )
     assert status == 1, "a list that ends in the middle, the status"
     # the prompt is started with a module in which a word fails
     broken = "import companions.prompt.rounds as it; it.Rounds.show_round = lambda *_: {}[1]; from companions.prompt.main import main; main()"
-    words = [sys.executable, "-B", "-c", f"import sys; sys.path.insert(0, {extras!r}); {broken}", file, "--program", program.path]
-    ran = subprocess.run(words, input=b"round\nstandings\n", capture_output=True, timeout=PATIENCE, env=LETTERS)
-    check_said("a fault of the prompt itself", ran.stdout.decode(), "The prompt itself is at fault: KeyError: 1", "See: where", *event.standings())
+    words = [
+        sys.executable,
+        "-B",
+        "-c",
+        f"import sys; sys.path.insert(0, {extras!r}); {broken}",
+        file,
+        "--program",
+        program.path,
+    ]
+    ran = subprocess.run(
+        words, input=b"round\nstandings\n", capture_output=True, timeout=PATIENCE, env=LETTERS
+    )
+    check_said(
+        "a fault of the prompt itself",
+        ran.stdout.decode(),
+        "The prompt itself is at fault: KeyError: 1",
+        "See: where",
+        *event.standings(),
+    )
     assert ran.stderr == b"", "a fault of the prompt itself, no traceback"
 
 
@@ -45,13 +83,23 @@ def test_two(prompt, started, at):
     """Two prompts at one file: who says `pair` at once leaves one key, by which the round was paired."""
     event, file = started(*(f"P{number}" for number in range(1, 17)))
     prompts = [
-        subprocess.Popen(prompt.words(file), stdin=subprocess.PIPE, stdout=subprocess.PIPE, stderr=subprocess.STDOUT, env=LETTERS) for _ in range(2)
+        subprocess.Popen(
+            prompt.words(file),
+            stdin=subprocess.PIPE,
+            stdout=subprocess.PIPE,
+            stderr=subprocess.STDOUT,
+            env=LETTERS,
+        )
+        for _ in range(2)
     ]
     for it in prompts:
         it.stdin.write(b"pair\n")
         it.stdin.flush()
     text = "".join(it.communicate(timeout=PATIENCE)[0].decode() for it in prompts)
-    assert (text.count("Show it to the players"), text.count("refused 8 RoundOpen")) == (1, 1), "who is answered"
+    assert (text.count("Show it to the players"), text.count("refused 8 RoundOpen")) == (
+        1,
+        1,
+    ), "who is answered"
     keys = keys_of(file)
     assert [number for number, _ in keys] == [1], "one key"
     event.pair(1, keys[0][1])
@@ -65,7 +113,9 @@ def test_turns(prompt, program, room, started):
     prompt.said(file, "pair")
     with open(f"{file}.turn", "rb") as it:
         fcntl.flock(it, fcntl.LOCK_EX)
-        waiting = subprocess.Popen(prompt.words(file), stdin=subprocess.PIPE, stdout=subprocess.PIPE, env=LETTERS)
+        waiting = subprocess.Popen(
+            prompt.words(file), stdin=subprocess.PIPE, stdout=subprocess.PIPE, env=LETTERS
+        )
         waiting.stdin.write(b"1 2 0\n")
         waiting.stdin.flush()
         waits = not select.select([waiting.stdout], [], [], 0.7)[0]
@@ -73,7 +123,11 @@ def test_turns(prompt, program, room, started):
     assert waits, "a turn is waited for"
     stop = f"{room}/stop"
     line = 'while [ ! -e "$1" ]; do flock "$2.turn" "$3" standings "$2" > /dev/null || exit 1; done'
-    others = [subprocess.Popen(["sh", "-c", line, "sh", stop, file, program.path]) for _ in range(2)] if shutil.which("flock") else []
+    others = (
+        [subprocess.Popen(["sh", "-c", line, "sh", stop, file, program.path]) for _ in range(2)]
+        if shutil.which("flock")
+        else []
+    )
     status, text = prompt.typed(file, *(f"{it} 2 1" for it in range(2, 17)))
     mark(stop)
     assert (status, text.count("\nok ")) == (0, 15), "results beside two who take turns"
@@ -96,13 +150,26 @@ def test_calls(prompt, program, room, started, stand_in):
     prompt.said(file, "standings", "standings", "round 1", "round 1", by=counting)
     assert len([it for it in calls() if it in ("standings", "slips")]) == 2, "nothing is asked twice"
     program.run("result", file, "1", "4", "2", "0", "0")
-    check_said("what came from elsewhere is seen", prompt.said(file, "where", by=counting), "round 1 has all its scores")
+    check_said(
+        "what came from elsewhere is seen",
+        prompt.said(file, "where", by=counting),
+        "round 1 has all its scores",
+    )
 
 
 def test_lost(prompt, program, room, stand_in):
     """The program is killed before a command or after it: the prompt says what is stored."""
     lossy = stand_in(LOSSY)
-    lines = [["start"], ["pair"], ["1 2 1"], ["fix 1 0 2"], ["drop 4", "y"], ["cut", "y"], ["play final 2 0"], ["enrol Zed"]]
+    lines = [
+        ["start"],
+        ["pair"],
+        ["1 2 1"],
+        ["fix 1 0 2"],
+        ["drop 4", "y"],
+        ["cut", "y"],
+        ["play final 2 0"],
+        ["enrol Zed"],
+    ]
     event = Event(1, 2)
     for name in ("Ana", "Bo", "Cy", "Di"):
         event.enrol(name)
@@ -114,10 +181,17 @@ def test_lost(prompt, program, room, stand_in):
             file = laid(program.path, f"{room}/other.event", event, "E")
         serial = read(file).serial
         mark(f"{file}.before")
-        check_said(f"lost before {line[0]}", prompt.said(file, *line, by=lossy), "No answer came.", "It is not stored. Type the line again.")
+        check_said(
+            f"lost before {line[0]}",
+            prompt.said(file, *line, by=lossy),
+            "No answer came.",
+            "It is not stored. Type the line again.",
+        )
         assert read(file).serial == serial, f"lost before {line[0]}, the serial"
         mark(f"{file}.behind")
-        check_said(f"lost behind {line[0]}", prompt.said(file, *line, by=lossy), "No answer came.", "It is stored.")
+        check_said(
+            f"lost behind {line[0]}", prompt.said(file, *line, by=lossy), "No answer came.", "It is stored."
+        )
         assert read(file).serial == serial + 1, f"lost behind {line[0]}, the serial"
 
 
@@ -136,12 +210,18 @@ def test_busy(prompt, started, stand_in):
     event, file = started("Ana", "Bo", "Cy", "Di")
     prompt.said(file, "pair")
     busy = stand_in(BUSY)
-    for table, when, answer in ((1, "before", "ok 7: round 1, 1 table open: 2"), (2, "behind", "It is stored.: round 1 has all its scores.")):
+    for table, when, answer in (
+        (1, "before", "ok 7: round 1, 1 table open: 2"),
+        (2, "behind", "It is stored.: round 1 has all its scores."),
+    ):
         with open(f"{file}.busy", "w") as it:
             it.write(when)
         status, text = prompt.typed(file, f"{table} 2 0", by=busy)
         check_said(f"busy {when} a command", text, answer)
-        assert (status, read(file).serial) == (0, 6 + table), f"busy {when} a command, the status and the serial"
+        assert (status, read(file).serial) == (
+            0,
+            6 + table,
+        ), f"busy {when} a command, the status and the serial"
 
 
 def mark(path):

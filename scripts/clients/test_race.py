@@ -115,10 +115,16 @@ class Slip:
     def stands_in(self, event):
         """Whether these two sit there; a round that is not paired, or no longer, may still come so."""
         matches = event.stored[self.number - 1] if self.number <= len(event.stored) else []
-        return not matches or (self.table <= len(matches) and matches[self.table - 1][:2] == [self.first, self.second])
+        return not matches or (
+            self.table <= len(matches) and matches[self.table - 1][:2] == [self.first, self.second]
+        )
 
     def is_stored_in(self, event):
-        return self.number <= len(event.stored) and self.stands_in(event) and event.stored[self.number - 1][self.table - 1][2] == self.score
+        return (
+            self.number <= len(event.stored)
+            and self.stands_in(event)
+            and event.stored[self.number - 1][self.table - 1][2] == self.score
+        )
 
     def enters(self):
         return act(lambda event: event.report(self.number, self.table, self.score, True))
@@ -146,7 +152,9 @@ class Window(Terminal):
         """What is said, up to a question or the next prompt; of a line that was typed, what it is answered."""
         said, until = b"", time.monotonic() + PATIENCE
         while not ends(said, echo):
-            assert time.monotonic() < until, f"{self.name}: nothing came after {said.decode(errors='replace')!r}"
+            assert (
+                time.monotonic() < until
+            ), f"{self.name}: nothing came after {said.decode(errors='replace')!r}"
             if select.select([self.master], [], [], 1)[0]:
                 said += os.read(self.master, 65536)
         answer = said[echo.search(said).end() :] if echo else said
@@ -276,7 +284,9 @@ class Race:
 
     def seat(self, count):
         for name in "abc"[:count]:
-            self.windows.append(self.prompt.keep(Window(self.prompt.words(self.file, reads_slowly=True), f"window {name}")))
+            self.windows.append(
+                self.prompt.keep(Window(self.prompt.words(self.file, reads_slowly=True), f"window {name}"))
+            )
 
     # ---- a step, and what the file is after it
 
@@ -320,7 +330,11 @@ class Race:
         held = self.scanned if is_phone else move.who.slips
         if not is_phone:
             held.remove(slip)
-        is_open = slip.number == len(self.event.stored) and slip.stands_in(self.event) and self.event.stored[-1][slip.table - 1][2] is None
+        is_open = (
+            slip.number == len(self.event.stored)
+            and slip.stands_in(self.event)
+            and self.event.stored[-1][slip.table - 1][2] is None
+        )
         if is_open and slip.tries < 9:
             held.append(replace(slip, tries=slip.tries + 1))
 
@@ -328,7 +342,12 @@ class Race:
         """What each copy that was made is an event of: of those that the event may have been meanwhile."""
         for it in due:
             self.states[repr(rows_of(it, TITLE))] = it
-        paths = set(filter(os.path.isfile, map(self.inside, glob.glob(f"{self.file}.copies/*") + glob.glob(f"{self.file}.away-*"))))
+        paths = set(
+            filter(
+                os.path.isfile,
+                map(self.inside, glob.glob(f"{self.file}.copies/*") + glob.glob(f"{self.file}.away-*")),
+            )
+        )
         for path in paths - self.copies.keys():
             if not path.endswith(("-wal", "-shm", ".part")):
                 copied = repr(rows_of_copy(path))
@@ -354,7 +373,9 @@ class Race:
         held = {it.table for window in self.windows for it in window.slips if it.number == number}
         for table, (first, second, score) in enumerate(self.event.stored[-1] if number else [], 1):
             if second and score is None and table not in held:
-                self.hand_out(Slip(number, table, first, second, lawful(self.dice, random_score, is_of_swiss)))
+                self.hand_out(
+                    Slip(number, table, first, second, lawful(self.dice, random_score, is_of_swiss))
+                )
 
     def hand_out(self, slip):
         holders = self.dice.sample(self.windows, 2 if self.dice.random() < 0.6 else 1)
@@ -383,12 +404,20 @@ class Race:
 
     def come_late(self, before):
         """Right after the round has changed, a slip of the round before comes to a window that shows that one still."""
-        behind = [it for it in self.windows if 0 < it.round <= len(before.stored) and it.round != len(self.event.stored)]
+        behind = [
+            it
+            for it in self.windows
+            if 0 < it.round <= len(before.stored) and it.round != len(self.event.stored)
+        ]
         if behind:
             window = self.dice.choice(behind)
-            tables = [(table, *match) for table, match in enumerate(before.stored[window.round - 1], 1) if match[1]]
+            tables = [
+                (table, *match) for table, match in enumerate(before.stored[window.round - 1], 1) if match[1]
+            ]
             table, first, second, score = self.dice.choice(tables)
-            slip = Slip(window.round, table, first, second, score or lawful(self.dice, random_score, is_of_swiss))
+            slip = Slip(
+                window.round, table, first, second, score or lawful(self.dice, random_score, is_of_swiss)
+            )
             window.slips.append(slip)
             self.do(self.enter(window, slip))
 
@@ -421,7 +450,10 @@ class Race:
         if not os.path.exists(f"{self.file}.keys"):
             return []
         with open(f"{self.file}.keys", encoding="utf-8") as kept:
-            return [bytes.fromhex(it) for it in re.findall(rf"^round {number} ([0-9a-f]{{64}})$", kept.read(), re.M)]
+            return [
+                bytes.fromhex(it)
+                for it in re.findall(rf"^round {number} ([0-9a-f]{{64}})$", kept.read(), re.M)
+            ]
 
     def pair(self, window):
         ways = ["pair", "pair", "pair new", f"pair {self.dice.getrandbits(256):064x}"]
@@ -480,7 +512,9 @@ class Race:
         x, y, d = score = lawful(self.dice, random_playoff_score, is_of_playoff)
         counts = f"{x} {y} {d}" if d else f"{x} {y}"
         named = {1: "final", 2: f"sf{slot}", 4: f"qf{slot}"}[len(matches)]
-        line = self.dice.choice((f"play {stage} {slot} {counts}", f"play {named} {counts}", f"playoff {stage} {slot} {x} {y} {d}"))
+        line = self.dice.choice(
+            (f"play {stage} {slot} {counts}", f"play {named} {counts}", f"playoff {stage} {slot} {x} {y} {d}")
+        )
         return Move(window, line, (act(lambda event: event.play(stage, slot, score)),))
 
     def back(self, window):
@@ -515,14 +549,28 @@ class Race:
         found = [(self.look, 3)]
         if event.phase == ENROLLING:
             is_full = len(event.names) >= max(event.cut, 4) + 2
-            found += [(self.enrol, 1 if is_full else 12), (self.import_list, 0.7), (self.start, 3 if is_full else 0)]
+            found += [
+                (self.enrol, 1 if is_full else 12),
+                (self.import_list, 0.7),
+                (self.start, 3 if is_full else 0),
+            ]
             return found + [(self.rename, 1 if event.names else 0)]
-        found += [(self.enter, 10 if window.slips else 0), (self.back, 0.4 if self.backs < 3 and self.copies else 0)]
+        found += [
+            (self.enter, 10 if window.slips else 0),
+            (self.back, 0.4 if self.backs < 3 and self.copies else 0),
+        ]
         if event.phase == SWISS:
             is_open = event.is_open()
-            found += [(self.correct, 1.2 if event.stored else 0), (self.drop, 0.4 if self.can_drop() else 0), (self.enrol, 0.3)]
+            found += [
+                (self.correct, 1.2 if event.stored else 0),
+                (self.drop, 0.4 if self.can_drop() else 0),
+                (self.enrol, 0.3),
+            ]
             # who pairs doesn't wait for slips whose score is there already
-            found += [(self.pair, 0.2 if is_open or len(event.stored) == event.rounds else 20), (self.cut, 0.2 if is_open else 2)]
+            found += [
+                (self.pair, 0.2 if is_open or len(event.stored) == event.rounds else 20),
+                (self.cut, 0.2 if is_open else 2),
+            ]
         if event.phase == PLAYOFF:
             found += [(self.play, 10)]
         return found
@@ -583,7 +631,9 @@ class Race:
             status, said = window.leave("\x04")
             assert (status, "Traceback" in said) == (0, False), f"{window.name} ends: {said}"
         with tempfile.TemporaryDirectory() as folder:
-            assert rows_of(read(copied(self.file, folder)), TITLE) == rows_of(self.event, TITLE), self.story("the file")
+            assert rows_of(read(copied(self.file, folder)), TITLE) == rows_of(self.event, TITLE), self.story(
+                "the file"
+            )
 
 
 def number_of(path):
@@ -595,9 +645,15 @@ def elsewhere(before, rows):
     """What the file has that nobody meant: scores at other places, above all."""
     if rows is None:
         return "there is no event any more"
-    scores = lambda pairing: {(number, table): (done, x, y, d) for number, table, _, _, _, done, x, y, d in pairing}
+    scores = lambda pairing: {
+        (number, table): (done, x, y, d) for number, table, _, _, _, done, x, y, d in pairing
+    }
     old, new = scores(rows_of(before, TITLE)[2]), scores(rows[2])
-    moved = [f"round {number}, table {table}: {old.get((number, table))} is {it}" for (number, table), it in new.items() if old.get((number, table)) != it]
+    moved = [
+        f"round {number}, table {table}: {old.get((number, table))} is {it}"
+        for (number, table), it in new.items()
+        if old.get((number, table)) != it
+    ]
     return f"the file is not what was typed. Scores that changed (stored, and the counts): {moved}; the first row: {rows[0]}"
 
 
@@ -635,8 +691,22 @@ def boards(program, extras):
     begun = []
 
     def begin(file, page):
-        words = [sys.executable, "-B", f"{extras}/event-sheets", file, "--program", program.path, "--board", "--watch", page]
-        begun.append(subprocess.Popen(words, stdin=subprocess.DEVNULL, stdout=subprocess.DEVNULL, stderr=subprocess.PIPE))
+        words = [
+            sys.executable,
+            "-B",
+            f"{extras}/event-sheets",
+            file,
+            "--program",
+            program.path,
+            "--board",
+            "--watch",
+            page,
+        ]
+        begun.append(
+            subprocess.Popen(
+                words, stdin=subprocess.DEVNULL, stdout=subprocess.DEVNULL, stderr=subprocess.PIPE
+            )
+        )
         return begun[-1]
 
     yield begin
@@ -654,7 +724,9 @@ def shows(page, event):
     if event.phase == FINISHED:
         return "final" in parts and shown_rows(parts["final"]) == final_rows(event)
     # who has never sat at a table is left out
-    return "standings" in parts and shown_standings(parts["standings"])[0] == [it for it in ranks_due(event) if it[4]]
+    return "standings" in parts and shown_standings(parts["standings"])[0] == [
+        it for it in ranks_due(event) if it[4]
+    ]
 
 
 @pytest.mark.needs("phones and a board that race", module="waitress", package="python3-waitress")

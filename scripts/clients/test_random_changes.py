@@ -20,7 +20,7 @@ from scripts.models.random_play import random_playoff_score, random_score
 
 CASES = {"number": (20, 1_000)}
 CHANGES = 10
-NAMES = "Ana {}", "Bo, {}", "-x {}", "Zoë <{}>", "Łukasz {}", "O'Neil \"{}\"", "{}", "=1+{}"
+NAMES = "Ana {}", "Bo, {}", "-x {}", "Zoë <{}>", "Łukasz {}", 'O\'Neil "{}"', "{}", "=1+{}"
 
 
 class Answers:
@@ -70,7 +70,15 @@ class RandomEvening:
         return read(self.file)
 
     def lists(self):
-        return [self.program.did(*words) for words in (("export", self.file, "players"), ("export", self.file, "results"), ("standings", self.file), ("bracket", self.file))]
+        return [
+            self.program.did(*words)
+            for words in (
+                ("export", self.file, "players"),
+                ("export", self.file, "results"),
+                ("standings", self.file),
+                ("bracket", self.file),
+            )
+        ]
 
     def bytes(self):
         with open(self.file, "rb") as it:
@@ -94,10 +102,16 @@ class RandomEvening:
         elif event.phase == PLAYOFF:
             self.play(event)
         elif event.phase == SWISS:
-            still_open = [at for at, (_, second, score) in enumerate(event.stored[-1], 1) if second and score is None] if event.stored else []
+            still_open = (
+                [at for at, (_, second, score) in enumerate(event.stored[-1], 1) if second and score is None]
+                if event.stored
+                else []
+            )
             if still_open and dice.random() < 0.9:
                 table, score = dice.choice(still_open), lawful(dice, random_score, is_of_swiss)
-                self.hand_in(event, table, score) if dice.random() < 0.3 else self.say(f"{table} {' '.join(map(str, score))}")
+                self.hand_in(event, table, score) if dice.random() < 0.3 else self.say(
+                    f"{table} {' '.join(map(str, score))}"
+                )
             elif dice.random() < 0.35:
                 self.beside(event)
             else:
@@ -111,7 +125,9 @@ class RandomEvening:
         number, said = len(event.stored), Score(*score)
         self.sources[2].report(number, str(table), said)
         first, second, _ = event.stored[-1][table - 1]
-        Reports(self.file).add(Report(time.strftime(TIME), number, table, first, second, said, STORED, said, "10.0.0.7"))
+        Reports(self.file).add(
+            Report(time.strftime(TIME), number, table, first, second, said, STORED, said, "10.0.0.7")
+        )
 
     def beside(self, event):
         """What comes between results."""
@@ -123,7 +139,9 @@ class RandomEvening:
             self.say(f"drop {dice.randint(1, len(event.names))}")
         elif what == "fix" and event.stored:
             number = dice.randint(1, len(event.stored))
-            self.say(f"fix {number} {dice.randint(1, len(event.stored[number - 1]))} {' '.join(map(str, lawful(dice, random_score, is_of_swiss)))}")
+            self.say(
+                f"fix {number} {dice.randint(1, len(event.stored[number - 1]))} {' '.join(map(str, lawful(dice, random_score, is_of_swiss)))}"
+            )
         elif event.stored:
             self.say(f"doubt {dice.randint(1, len(event.stored[-1]))}")
 
@@ -139,8 +157,17 @@ class RandomEvening:
         event, dice = self.event, self.dice
         new = copy.deepcopy(event)
         # mostly what is taken in this phase
-        kinds = {ENROLLING: ("plan", "remove", "rename"), SWISS: ("plan", "score", "score", "drop", "remove"), PLAYOFF: ("slot",), FINISHED: ("slot",)}
-        what = dice.choice(kinds[event.phase] if dice.random() < 0.9 else ("plan", "score", "drop", "remove", "rename", "slot"))
+        kinds = {
+            ENROLLING: ("plan", "remove", "rename"),
+            SWISS: ("plan", "score", "score", "drop", "remove"),
+            PLAYOFF: ("slot",),
+            FINISHED: ("slot",),
+        }
+        what = dice.choice(
+            kinds[event.phase]
+            if dice.random() < 0.9
+            else ("plan", "score", "drop", "remove", "rename", "slot")
+        )
         if what == "plan":
             new.rounds, new.cut = dice.randint(max(1, len(event.stored)), 5), dice.choice((0, 2, 4))
             return f"plan {new.rounds} {new.cut}", new, ""
@@ -149,7 +176,11 @@ class RandomEvening:
             if scored:
                 table = dice.choice(scored)
                 new.stored[-1][table - 1][2] = None
-                return f"take back {table}", new, f"{table} {' '.join(map(str, event.stored[-1][table - 1][2]))}"
+                return (
+                    f"take back {table}",
+                    new,
+                    f"{table} {' '.join(map(str, event.stored[-1][table - 1][2]))}",
+                )
         if what == "drop" and event.dropped:
             number = max(event.dropped) if dice.random() < 0.5 else dice.choice(sorted(event.dropped))
             new.dropped.discard(number)
@@ -158,7 +189,13 @@ class RandomEvening:
             number = dice.randint(1, len(event.names))
             del new.names[number - 1]
             new.dropped = {it - (it > number) for it in event.dropped if it != number}
-            return f"remove {number}", new, f"enrol {event.names[-1]}" if number == len(event.names) and number not in event.dropped else ""
+            return (
+                f"remove {number}",
+                new,
+                f"enrol {event.names[-1]}"
+                if number == len(event.names) and number not in event.dropped
+                else "",
+            )
         if what == "rename" and event.phase == ENROLLING:
             number = dice.randint(1, len(event.names))
             new.names[number - 1] = f"New {len(self.told)}"
@@ -190,7 +227,9 @@ class RandomEvening:
             assert self.bytes() == held, f"declined, and the file is another one\n{self.story()}"
             return "declined"
         after = self.event
-        assert self.is_same(after, due), f"more than the change differs: {after.stored} and not {due.stored}\n{self.story()}"
+        assert self.is_same(
+            after, due
+        ), f"more than the change differs: {after.stored} and not {due.stored}\n{self.story()}"
         if line.startswith("plan"):
             assert self.lists() == lists, f"other lists\n{self.story()}"
         if again and before.phase != FINISHED:

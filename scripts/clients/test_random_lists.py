@@ -16,12 +16,35 @@ from scripts.models.random_play import random_event
 
 # how many of them are tried, and how many with --long; fifty damaged lists to a group
 CASES = {"number": (40, 300), "group": (8, 40)}
-PIECES = ["Ana", "Bo", "Lee", "Jo", "Zoë", "大会", "O'Neil", ",", '"', '""', ";", "-", "D", "no", "name", "=1+1", "#", "\u00a0", "🂡", "x" * 20]
+PIECES = [
+    "Ana",
+    "Bo",
+    "Lee",
+    "Jo",
+    "Zoë",
+    "大会",
+    "O'Neil",
+    ",",
+    '"',
+    '""',
+    ";",
+    "-",
+    "D",
+    "no",
+    "name",
+    "=1+1",
+    "#",
+    "\u00a0",
+    "🂡",
+    "x" * 20,
+]
 TURNS = b'",;\r\n\t \0\xef\xbb\xbf\xff019a-'
 
 
 def random_name(dice):
-    name = "".join(dice.choice(PIECES) + " " * dice.randrange(2) for _ in range(dice.randint(1, 4))).strip(" ")
+    name = "".join(dice.choice(PIECES) + " " * dice.randrange(2) for _ in range(dice.randint(1, 4))).strip(
+        " "
+    )
     return name.encode()[:60].decode(errors="ignore").strip(" ") or "Ana"
 
 
@@ -29,9 +52,17 @@ def random_list(dice, most):
     """The bytes of a list, as one program or another writes it. Some names stand twice."""
     names = [random_name(dice) for _ in range(dice.randint(0, most))]
     is_full = dice.random() < 0.4
-    rows = [["no", "name", "dropped"]] + [[str(at), it, dice.choice("01")] for at, it in enumerate(names, 1)] if is_full else [["name"]] + [[it] for it in names]
+    rows = (
+        [["no", "name", "dropped"]] + [[str(at), it, dice.choice("01")] for at, it in enumerate(names, 1)]
+        if is_full
+        else [["name"]] + [[it] for it in names]
+    )
     text = io.StringIO(newline="")
-    writer = csv.writer(text, quoting=dice.choice((csv.QUOTE_MINIMAL, csv.QUOTE_ALL)), lineterminator=dice.choice(("\n", "\r\n")))
+    writer = csv.writer(
+        text,
+        quoting=dice.choice((csv.QUOTE_MINIMAL, csv.QUOTE_ALL)),
+        lineterminator=dice.choice(("\n", "\r\n")),
+    )
     writer.writerows(rows)
     return b"\xef\xbb\xbf" * dice.choice((0, 0, 0, 1, 2)) + text.getvalue().encode()
 
@@ -55,7 +86,12 @@ class Imports:
     """An event file and the plain event that it holds."""
 
     def __init__(self, program, room, name):
-        self.program, self.file, self.list, self.event = program, f"{room}/{name}", f"{room}/list.csv", Event(3, 0)
+        self.program, self.file, self.list, self.event = (
+            program,
+            f"{room}/{name}",
+            f"{room}/list.csv",
+            Event(3, 0),
+        )
         assert program.run("init", self.file, "E", "3", "0") == (0, b"ok 0\n", b"")
 
     def take(self, data):
@@ -81,7 +117,9 @@ def test_through(imports, dice, number):
     one, other = imports("one"), imports("other")
     one.take(random_list(dice, 40))
     out = one.exported()
-    assert [[field.decode() for field in row] for row in records(out)] == players_rows(one.event), "read by Python"
+    assert [[field.decode() for field in row] for row in records(out)] == players_rows(
+        one.event
+    ), "read by Python"
     other.take(out)
     assert other.event.names == one.event.names
     other.exported()

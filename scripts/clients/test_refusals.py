@@ -63,14 +63,24 @@ def test_refusals_of_players(prompt, program, room, started, refused_by):
     refused_by(file, 18, "AlreadyDropped", ["drop Ana"], "has dropped already")
     full = Event(3, 0)
     full.names = [f"P{it}" for it in range(1, 513)]
-    refused_by(laid(program.path, f"{room}/full.event", full, "E"), 3, "PlayersFull", ["enrol Ana"], "no room for more")
+    refused_by(
+        laid(program.path, f"{room}/full.event", full, "E"),
+        3,
+        "PlayersFull",
+        ["enrol Ana"],
+        "no room for more",
+    )
     old = Event(3, 0, 1)
     for name in ("Ana", "Bo"):
         old.enrol(name)
     old.start()
     make_old(f"{room}/old.event", old)
     refused_by(f"{room}/old.event", 30, "BadSetup", ["enrol Cy"], "Migrate it")
-    check_said("refusal 30, of init alone", prompt.said(f"{room}/none.event", "init Friday 13 0"), "a cut of 0, 2, 4\nor 8: init Friday Night 3 0\n")
+    check_said(
+        "refusal 30, of init alone",
+        prompt.said(f"{room}/none.event", "init Friday 13 0"),
+        "a cut of 0, 2, 4\nor 8: init Friday Night 3 0\n",
+    )
     text = prompt.said(f"{room}/old.event", "migrate", "enrol Cy")
     check_said("after a migration", text, f"ok {old.serial}", f"ok {old.serial + 1}", "Cy (3) is enrolled.")
 
@@ -87,16 +97,36 @@ def test_refusals_of_rounds(prompt, program, room, started, stand_in, refused_by
     refused_by(file, 15, "NotReported", ["fix 1 1 2 0"], "Enter it: 17 2 1")
     refused_by(file, 16, "IsBye", ["0 2 0"], "stays 2-0-0")
     check_said("a score", prompt.said(file, "1 0 2"), "ok ", "round 1 has all its scores. Next: pair")
-    refused_by(file, 14, "AlreadyReported", ["1 0 2"], "Not stored: round 1, table 1", "Stored is 0-2-0, the very same. All is well.")
-    refused_by(file, 14, "AlreadyReported", ["1 2 1"], "Not stored: round 1, table 1", "Stored is 0-2-0. If that is wrong: fix 1 1 2 1 0")
+    refused_by(
+        file,
+        14,
+        "AlreadyReported",
+        ["1 0 2"],
+        "Not stored: round 1, table 1",
+        "Stored is 0-2-0, the very same. All is well.",
+    )
+    refused_by(
+        file,
+        14,
+        "AlreadyReported",
+        ["1 2 1"],
+        "Not stored: round 1, table 1",
+        "Stored is 0-2-0. If that is wrong: fix 1 1 2 1 0",
+    )
     prompt.said(file, "pair", "1 2 0", "pair", "1 2 0")
     refused_by(file, 9, "AllRoundsPaired", ["pair"], "standings, or cut")
-    refused_by(file, 21, "TooFewForCut", ["cut"], "3 players are left, and the cut is to 8", "plan 3 2, and then cut")
+    refused_by(
+        file, 21, "TooFewForCut", ["cut"], "3 players are left, and the cut is to 8", "plan 3 2, and then cut"
+    )
     _, two = started("Ana", "Bo", called="two")
     refused_by(two, 20, "NoCut", ["pair", "1 2 0", "cut"], "with no cut")
     refused_by(two, 10, "NoPairing", ["pair"], "The standings are final")
-    assert sorted(it[-18:] for it in os.listdir(f"{two}.copies")) == ["before-pair-1.event"[-18:]], "refusal 10, no copy is left"
-    hurried = stand_in(f'[ "$1" = pair ] && "$REAL" pair "$2" "$3" {"0" * 64} > "$2.other"\nexec "$REAL" "$@"')
+    assert sorted(it[-18:] for it in os.listdir(f"{two}.copies")) == [
+        "before-pair-1.event"[-18:]
+    ], "refusal 10, no copy is left"
+    hurried = stand_in(
+        f'[ "$1" = pair ] && "$REAL" pair "$2" "$3" {"0" * 64} > "$2.other"\nexec "$REAL" "$@"'
+    )
     _, paired = started("Ana", "Bo", "Cy", "Di", called="paired")
     refused_by(paired, 7, "WrongRound", ["pair"], "See: where", by=hurried)
     refused_by(without_end(program, room), 11, "Budget", ["pair"], "pair new")
@@ -108,7 +138,15 @@ def test_refusals_of_phases(prompt, started, refused_by):
     prompt.said(file, "pair", "1 2 0", "2 2 0", "cut", "y")
     refused_by(file, 6, "NotSwiss", ["1 2 0"], "the playoff has begun. See: open")
     refused_by(file, 6, "NotSwiss", ["drop 1"], "nobody drops any more", "wins: play final 2 0")
-    refused_by(file, 13, "BadScore", ["play final 2 2"], "Not stored: final: ", "No match of the playoff ends so", "play final 2 1")
+    refused_by(
+        file,
+        13,
+        "BadScore",
+        ["play final 2 2"],
+        "Not stored: final: ",
+        "No match of the playoff ends so",
+        "play final 2 1",
+    )
     prompt.said(file, "play final 2 1")
     refused_by(file, 6, "NotSwiss", ["fix 1 2 0"], "The event is over")
 
@@ -144,7 +182,13 @@ def test_refusals_of_the_file(prompt, room, started, stand_in, serve, refused_by
     )
     by_sqlite(file, "UPDATE event SET phase = 3")
     refused_by(file, 29, "Damaged", ["where"], "Go on from a copy: back")
-    check_said("back from a damaged file", prompt.said(file, "back 1", "y", "where"), "before the pairing of round 1", f"is {file}.away-0002-", "no round is paired yet")
+    check_said(
+        "back from a damaged file",
+        prompt.said(file, "back 1", "y", "where"),
+        "before the pairing of round 1",
+        f"is {file}.away-0002-",
+        "no round is paired yet",
+    )
 
 
 def test_texts(extras):
@@ -152,5 +196,12 @@ def test_texts(extras):
     sys.path.insert(0, extras)
     module = importlib.import_module("companions.prompt.texts")
     assert sorted(module.REFUSALS) == list(range(1, 31)), "refusals with words"
-    texts = [*module.REFUSALS.values(), module.ALL_COMMANDS, module.BEGINNING, module.PLAYOFF, module.UNDO, module.MISSING]
+    texts = [
+        *module.REFUSALS.values(),
+        module.ALL_COMMANDS,
+        module.BEGINNING,
+        module.PLAYOFF,
+        module.UNDO,
+        module.MISSING,
+    ]
     assert [it for text in texts for it in text.split("\n") if len(it) > 80] == [], "words fit 80 columns"

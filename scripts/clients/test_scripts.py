@@ -43,7 +43,11 @@ def test_script(program, path):
 
 def test_first_example(program):
     """The one that the gate runs too, as each of two compilers makes the program."""
-    assert program.fed(bytes_of(f"{TOP}/crates/event_reporter/stdin")) == (0, bytes_of(f"{TOP}/crates/event_reporter/stdout"), b"")
+    assert program.fed(bytes_of(f"{TOP}/crates/event_reporter/stdin")) == (
+        0,
+        bytes_of(f"{TOP}/crates/event_reporter/stdout"),
+        b"",
+    )
 
 
 @pytest.mark.parametrize("size", [65_535, 65_536, 65_537, 70_000])
@@ -59,7 +63,11 @@ def test_full_event(program):
     for number in range(1, 513):
         script += b"enrol\tN%d\n" % number
         answers += b"ok %d\n" % number
-    script += b"enrol\tN1\nenrol\tN513\nenrol\t\nstart\npair\t1\t" + b"0" * 64 + b"\nenrol\tN1\nenrol\tN513\nenrol\t\n"
+    script += (
+        b"enrol\tN1\nenrol\tN513\nenrol\t\nstart\npair\t1\t"
+        + b"0" * 64
+        + b"\nenrol\tN1\nenrol\tN513\nenrol\t\n"
+    )
     turned_away = b"refused 2 NameTaken\nrefused 3 PlayersFull\nrefused 1 BadName\n"
     answers += turned_away + b"ok 513\nok 514\n" + turned_away
     assert program.fed(script) == (0, answers, b""), "512 players"
@@ -68,10 +76,14 @@ def test_full_event(program):
 def test_vectors():
     # RFC 8439, A.1, test vectors 1 and 3: the first block of the key of zeros, and the second of the key that ends in 1
     assert struct.pack("<4I", *words_of(bytes(32), 4)).hex() == "76b8e0ada0f13d90405d6ae55386bd28", "vector 1"
-    assert struct.pack("<4I", *words_of(bytes(31) + b"\1", 20)[16:]).hex() == "3aeb5224ecf849929b9d828db1ced4dd", "vector 3"
+    assert (
+        struct.pack("<4I", *words_of(bytes(31) + b"\1", 20)[16:]).hex() == "3aeb5224ecf849929b9d828db1ced4dd"
+    ), "vector 3"
 
 
-@pytest.mark.parametrize("seed", [bytes(range(32)), b"\xa1" + bytes(30) + b"\x0f", b"\xff" * 32], ids=bytes.hex)
+@pytest.mark.parametrize(
+    "seed", [bytes(range(32)), b"\xa1" + bytes(30) + b"\x0f", b"\xff" * 32], ids=bytes.hex
+)
 def test_seed(program, seed):
     """The first round follows the words of the seed, which is read from the left, the high half of each byte first. Capital digits are alike."""
     players = list(range(1, 38))
@@ -80,9 +92,17 @@ def test_seed(program, seed):
     script = b"init\tFriday\t3\t0\n" + b"".join(b"enrol\tP%d\n" % it for it in players) + b"start\n"
     answers = b"".join(b"ok %d\n" % it for it in range(len(players) + 3)) + b" Tab    A    B Score Names\n"
     for table, (a, b) in enumerate(zip(order[::2], order[1::2]), 1):
-        answers += b"%4d %4d %4d -     P%d - P%d\n" % (table, a, b, a, b) if b else b"   0 %4d    0 2-0-0 P%d - bye\n" % (a, a)
+        answers += (
+            b"%4d %4d %4d -     P%d - P%d\n" % (table, a, b, a, b)
+            if b
+            else b"   0 %4d    0 2-0-0 P%d - bye\n" % (a, a)
+        )
     for word in (seed.hex(), seed.hex().upper()):
-        assert program.fed(script + b"pair\t1\t%s\nslips\t1\n" % word.encode()) == (0, answers, b""), f"seed {word}"
+        assert program.fed(script + b"pair\t1\t%s\nslips\t1\n" % word.encode()) == (
+            0,
+            answers,
+            b"",
+        ), f"seed {word}"
 
 
 def wide_lines(text):
@@ -96,7 +116,11 @@ COMPANIONS = "event-desk", "event-sheets", "event-phones", "event-check"
 def test_help(program):
     """A text that is asked for goes to the output."""
     status, help_text, errors = program.run("--help")
-    assert (status, help_text.startswith(b"usage: event_reporter SUBCOMMAND FILE WORDS\n"), errors) == (0, True, b""), "--help"
+    assert (status, help_text.startswith(b"usage: event_reporter SUBCOMMAND FILE WORDS\n"), errors) == (
+        0,
+        True,
+        b"",
+    ), "--help"
     assert program.run("-h") == (0, help_text, b""), "-h"
     assert wide_lines(help_text) == [], "--help fits 80 columns"
     for word in ("--version", "-V"):
@@ -105,8 +129,16 @@ def test_help(program):
     assert sorted(listed) == sorted(subcommands.read()), "--help lists what is read"
     assert help_text.count(b"\n") <= 2 * 24 - 2, "--help fits two screens"
     assert [it for it in COMPANIONS if it not in help_text.decode()] == [], "--help names the companions"
-    assert program.fed(b"init\tFriday\t3\t0\nserve\t0\t1\nplayers\n") == (0, b"ok 0\nusage\n  No D Name\n", b""), "a script serves nobody"
-    assert program.fed(b"init\tFriday\t3\t0\nimport\tnames.csv\nplayers\n") == (0, b"ok 0\nusage\n  No D Name\n", b""), "a script imports no list"
+    assert program.fed(b"init\tFriday\t3\t0\nserve\t0\t1\nplayers\n") == (
+        0,
+        b"ok 0\nusage\n  No D Name\n",
+        b"",
+    ), "a script serves nobody"
+    assert program.fed(b"init\tFriday\t3\t0\nimport\tnames.csv\nplayers\n") == (
+        0,
+        b"ok 0\nusage\n  No D Name\n",
+        b"",
+    ), "a script imports no list"
 
 
 def seen_of(room):
@@ -114,7 +146,15 @@ def seen_of(room):
     return {it.name: (bytes_of(it.path), it.stat().st_mtime_ns) for it in os.scandir(room)}
 
 
-TOUCH_NOTHING = ["enrol FILE", "enrol FILE --help", "start FILE now", "init FILE Friday 13 0", "init FILE Friday 3 5", "unknown FILE", "FILE enrol Ana"]
+TOUCH_NOTHING = [
+    "enrol FILE",
+    "enrol FILE --help",
+    "start FILE now",
+    "init FILE Friday 13 0",
+    "init FILE Friday 3 5",
+    "unknown FILE",
+    "FILE enrol Ana",
+]
 
 
 @pytest.mark.parametrize("words", TOUCH_NOTHING)
@@ -139,7 +179,12 @@ def test_words_that_touch_no_file(program, room, words):
 def test_help_of(program, name):
     """Of each subcommand."""
     status, text, errors = program.run(name, "--help")
-    assert (status, text.startswith(b"usage: event_reporter %s FILE" % name.encode()), b"\nExample: event_reporter " in text, errors) == (0, True, True, b""), f"{name} --help"
+    assert (
+        status,
+        text.startswith(b"usage: event_reporter %s FILE" % name.encode()),
+        b"\nExample: event_reporter " in text,
+        errors,
+    ) == (0, True, True, b""), f"{name} --help"
     assert program.run(name, "-h") == (0, text, b""), f"{name} -h"
     assert wide_lines(text) == [], f"{name} --help fits 80 columns"
     for word in ("--version", "-V"):
@@ -159,7 +204,10 @@ def test_words_that_are_no_command_line(program):
         (["pair", "f", "256", "0" * 64], b"`256` is no whole number from 0 to 255\n" + pair),
         (["pair", "f", "1", "0" * 64, "2"], b"`2` is a word too many\n" + pair),
         (["pair", "f", "-1", "0" * 64], b"`-1` begins with `-`, which no word may\n" + pair),
-        (["drop", "f", "65536"], b"`65536` is no whole number from 0 to 65535\n" + program.run("drop", "-h")[1]),
+        (
+            ["drop", "f", "65536"],
+            b"`65536` is no whole number from 0 to 65535\n" + program.run("drop", "-h")[1],
+        ),
         (["serve", "f", "65536", "1"], b"`65536` is no whole number from 0 to 65535\n" + serve),
         (["serve", "f", "0", "0"], b"`0` is no whole number from 1 to 1000000\n" + serve),
         (["serve", "f", "0", "1000001"], b"`1000001` is no whole number from 1 to 1000000\n" + serve),
@@ -167,10 +215,22 @@ def test_words_that_are_no_command_line(program):
         (["export", "f", "Players"], b"`Players` is no kind of list: players or results\n" + export),
         (["export", "f"], b"a word is missing at the end\n" + export),
         (["migrate", "f", "2"], b"`2` is a word too many\n" + program.run("migrate", "-h")[1]),
-        (["help"], b"`help` is no subcommand\nusage: event_reporter SUBCOMMAND FILE WORDS\nTry: event_reporter --help\n"),
-        ([""], b"`` is no subcommand\nusage: event_reporter SUBCOMMAND FILE WORDS\nTry: event_reporter --help\n"),
-        (["help", "--version"], b"`--version` begins with `-`, which no word may\nusage: event_reporter SUBCOMMAND FILE WORDS\nTry: event_reporter --help\n"),
-        (["--help", "--help"], b"`--help` begins with `-`, which no word may\nusage: event_reporter SUBCOMMAND FILE WORDS\nTry: event_reporter --help\n"),
+        (
+            ["help"],
+            b"`help` is no subcommand\nusage: event_reporter SUBCOMMAND FILE WORDS\nTry: event_reporter --help\n",
+        ),
+        (
+            [""],
+            b"`` is no subcommand\nusage: event_reporter SUBCOMMAND FILE WORDS\nTry: event_reporter --help\n",
+        ),
+        (
+            ["help", "--version"],
+            b"`--version` begins with `-`, which no word may\nusage: event_reporter SUBCOMMAND FILE WORDS\nTry: event_reporter --help\n",
+        ),
+        (
+            ["--help", "--help"],
+            b"`--help` begins with `-`, which no word may\nusage: event_reporter SUBCOMMAND FILE WORDS\nTry: event_reporter --help\n",
+        ),
         ([b"\xff"], b"the words are no UTF-8 text\nTry: event_reporter --help\n"),
     ):
         assert program.fed(b"players\n", *words) == (2, b"", b"event_reporter: " + told), f"words {words}"
@@ -187,7 +247,15 @@ def in_room(program, room):
         resource.setrlimit(resource.RLIMIT_FSIZE, (room, room))
 
     with tempfile.TemporaryFile() as out:
-        ran = subprocess.run([program.path], input=FRIDAY, stdout=out, stderr=subprocess.PIPE, timeout=PATIENCE, preexec_fn=narrow, restore_signals=False)
+        ran = subprocess.run(
+            [program.path],
+            input=FRIDAY,
+            stdout=out,
+            stderr=subprocess.PIPE,
+            timeout=PATIENCE,
+            preexec_fn=narrow,
+            restore_signals=False,
+        )
         out.seek(0)
         return ran.returncode, out.read(), ran.stderr
 
@@ -196,7 +264,13 @@ def test_in_writes(program):
     """Each answer goes out by one write, so that a program that is stopped leaves no half of one: what was acknowledged is there with its number."""
     ours, theirs = socket.socketpair(socket.AF_UNIX, socket.SOCK_DGRAM)
     with ours, theirs:
-        ran = subprocess.run([program.path], input=FRIDAY + b"enrol\tAna\nenrol\n", stdout=theirs, stderr=subprocess.PIPE, timeout=PATIENCE)
+        ran = subprocess.run(
+            [program.path],
+            input=FRIDAY + b"enrol\tAna\nenrol\n",
+            stdout=theirs,
+            stderr=subprocess.PIPE,
+            timeout=PATIENCE,
+        )
         ours.setblocking(False)
         writes = []
         try:
@@ -205,7 +279,10 @@ def test_in_writes(program):
         except BlockingIOError:
             pass
     players = b"  No D Name\n   1   Ana\n   2   Bo\n   3   Cy\n   4   Di\n"
-    assert (ran.returncode, writes) == (0, [b"ok %d\n" % it for it in range(5)] + [players, b"refused 2 NameTaken\n", b"usage\n"]), "one write an answer"
+    assert (ran.returncode, writes) == (
+        0,
+        [b"ok %d\n" % it for it in range(5)] + [players, b"refused 2 NameTaken\n", b"usage\n"],
+    ), "one write an answer"
 
 
 def test_slowly(program):
@@ -220,7 +297,9 @@ def test_slowly(program):
 
 
 def into(program, out, data, *words):
-    ran = subprocess.run([program.path, *words], input=data, stdout=out, stderr=subprocess.PIPE, timeout=PATIENCE)
+    ran = subprocess.run(
+        [program.path, *words], input=data, stdout=out, stderr=subprocess.PIPE, timeout=PATIENCE
+    )
     return ran.returncode, ran.stderr
 
 
@@ -229,7 +308,12 @@ def test_devices(program):
     with open("/dev/full", "wb") as full:
         assert into(program, full, b"players\n") == (3, b""), "a full output"
         assert into(program, full, b"", "--help") == (3, b""), "a full output for the help"
-    for room, taken in ((0, b""), (7, b"ok 0\nok"), (13, b"ok 0\nok 1\nok "), (30, b"ok 0\nok 1\nok 2\nok 3\nok 4\n  No ")):
+    for room, taken in (
+        (0, b""),
+        (7, b"ok 0\nok"),
+        (13, b"ok 0\nok 1\nok "),
+        (30, b"ok 0\nok 1\nok 2\nok 3\nok 4\n  No "),
+    ):
         assert in_room(program, room) == (3, taken, b""), f"an output with room for {room} bytes"
     directory = os.open("/", os.O_RDONLY)
     ran = subprocess.run([program.path], stdin=directory, capture_output=True, timeout=PATIENCE)

@@ -10,7 +10,17 @@ import time
 
 import pytest
 
-from scripts.clients.random_evenings import COMPLETE, ENDED, HOSTILE, IN_PLAYOFF, OPEN, STARTED, WAYS, evening, laid
+from scripts.clients.random_evenings import (
+    COMPLETE,
+    ENDED,
+    HOSTILE,
+    IN_PLAYOFF,
+    OPEN,
+    STARTED,
+    WAYS,
+    evening,
+    laid,
+)
 from scripts.clients.sheets import BARE
 from scripts.clients.waiting import PATIENCE, comes
 from scripts.models.plain_event import Event
@@ -48,9 +58,13 @@ def check_alone(text, page):
     tags = {it.tag for it in page.root.nodes()}
     assert len(page.root.of("script")) == len(page.root.of("body", "board")), "scripts"
     tags -= {"script"}
-    assert tags & {"link", "img", "iframe", "object", "embed", "base", "a", "form", "use", "image"} == set(), "tags that ask for something"
+    assert (
+        tags & {"link", "img", "iframe", "object", "embed", "base", "a", "form", "use", "image"} == set()
+    ), "tags that ask for something"
     names = {name for it in page.root.nodes() for name in it.attributes}
-    assert {it for it in names if it.startswith("on") or it in ("src", "hre", "xlink:hre", "data", "action")} == set(), "attributes that do so"
+    assert {
+        it for it in names if it.startswith("on") or it in ("src", "hre", "xlink:hre", "data", "action")
+    } == set(), "attributes that do so"
     style = "".join(it.text() for it in page.root.of("style"))
     assert re.findall(r"url\(|@import|@font-face", style) == [], "a style that does so"
     assert text.count("\ufffd") + text.count("\r") == 0, "its letters"
@@ -73,13 +87,22 @@ def check_page(page, event, number, title, is_board=False, names_a_round=False):
     if "players" in parts:
         assert shown_rows(parts["players"]) == player_rows(event), "players"
     if "tables" in parts:
-        assert (heading(parts["tables"]), shown_rows(parts["tables"])) == ((title, f"Round {number}, by table"), [*table_rows(event, number)]), "by table"
-        assert (heading(parts["names"]), shown_rows(parts["names"])) == ((title, f"Round {number}, by name"), name_rows(event, number)), "by name"
+        assert (heading(parts["tables"]), shown_rows(parts["tables"])) == (
+            (title, f"Round {number}, by table"),
+            [*table_rows(event, number)],
+        ), "by table"
+        assert (heading(parts["names"]), shown_rows(parts["names"])) == (
+            (title, f"Round {number}, by name"),
+            name_rows(event, number),
+        ), "by name"
     if "slips" in parts:
         assert shown_slips(parts["slips"]) == slips_due(event, number, title), "slips"
     if "standings" in parts:
         due, (shown, bars) = ranks_due(event), shown_standings(parts["standings"])
-        assert heading(parts["standings"]) == (title, f"Standings after round {rounds_counted(event)}"), "standings"
+        assert heading(parts["standings"]) == (
+            title,
+            f"Standings after round {rounds_counted(event)}",
+        ), "standings"
         assert last_in(parts["standings"]) == last_in_due(event), "a line beneath the last place of the cut"
         if is_board:
             # who has never sat at a table is left out, and where they would be too small the percentages are
@@ -88,11 +111,20 @@ def check_page(page, event, number, title, is_board=False, names_a_round=False):
         else:
             assert (shown, bars) == (due, [it[6:] for it in due]), "the ranks and their bars"
     if "bracket" in parts:
-        assert (heading(parts["bracket"]), shown_bracket(parts["bracket"])) == ((title, "Playoff"), bracket_due(event)), "bracket"
+        assert (heading(parts["bracket"]), shown_bracket(parts["bracket"])) == (
+            (title, "Playoff"),
+            bracket_due(event),
+        ), "bracket"
     if "final" in parts:
-        assert (heading(parts["final"]), shown_rows(parts["final"])) == ((title, "Final ranking"), final_rows(event)), "final ranking"
+        assert (heading(parts["final"]), shown_rows(parts["final"])) == (
+            (title, "Final ranking"),
+            final_rows(event),
+        ), "final ranking"
     if "champion" in parts:
-        assert (heading(parts["champion"]), shown_champion(parts["champion"])) == ((title, "Champion"), champion_due(event)), "the champion"
+        assert (heading(parts["champion"]), shown_champion(parts["champion"])) == (
+            (title, "Champion"),
+            champion_due(event),
+        ), "the champion"
 
 
 def check_event(sheets, program, file, event, dice):
@@ -106,7 +138,11 @@ def check_event(sheets, program, file, event, dice):
     board = page_of(sheets, file, "--board", "--title", title)
     check_page(board, event, len(event.stored), title, is_board=True)
     assert shown_foot(board.root) == foot_due(event), "beneath the board"
-    assert [it.attributes.get("content") for it in board.root.of("meta") if it.attributes.get("http-equiv") == "refresh"] == ["20"], "the board reloads itself"
+    assert [
+        it.attributes.get("content")
+        for it in board.root.of("meta")
+        if it.attributes.get("http-equiv") == "refresh"
+    ] == ["20"], "the board reloads itself"
 
 
 @pytest.mark.needs("sheets and boards", module="jinja2", package="python3-jinja2")
@@ -132,12 +168,24 @@ def test_large(sheets, program, room, dice):
 def test_parts(sheets, program, room, dice, stand_in):
     event = evening(dice, 11, OPEN, 3, 0)
     file = laid(program.path, f"{room}/e.event", event, "E")
-    assert list(page_of(sheets, file, "--parts", "standings,tables").parts()) == ["standings", "tables"], "parts that are named"
+    assert list(page_of(sheets, file, "--parts", "standings,tables").parts()) == [
+        "standings",
+        "tables",
+    ], "parts that are named"
     seats = page_of(sheets, file, "--parts", "seats", "--title", "E").parts()["seats"]
-    assert (heading(seats), shown_rows(seats)) == (("E", "Seats for the players' meeting"), seat_rows(event)), "seats"
+    assert (heading(seats), shown_rows(seats)) == (
+        ("E", "Seats for the players' meeting"),
+        seat_rows(event),
+    ), "seats"
     calls = f"{room}/calls"
-    page_of(sheets, file, "--parts", "slips", "--program", stand_in(f'echo "$1 $3" >> {calls}\nexec "$REAL" "$@"'))
-    assert sorted(open(calls).read().splitlines()) == ["bracket ", "export players", "export results"], "what is asked for slips"
+    page_of(
+        sheets, file, "--parts", "slips", "--program", stand_in(f'echo "$1 $3" >> {calls}\nexec "$REAL" "$@"')
+    )
+    assert sorted(open(calls).read().splitlines()) == [
+        "bracket ",
+        "export players",
+        "export results",
+    ], "what is asked for slips"
 
 
 @pytest.mark.needs("sheets and boards", module="jinja2", package="python3-jinja2")
@@ -148,13 +196,17 @@ def test_doubts(sheets, program, room, dice):
     file = laid(program.path, f"{room}/e.event", event, "E")
     first = event.stored[-1][0]
     with open(f"{file}.doubts", "w") as it:
-        it.write(f"round {number} table 1 score {'-'.join(map(str, first[2]))}\nround {number} table 2 score 9-9-9\n")
+        it.write(
+            f"round {number} table 1 score {'-'.join(map(str, first[2]))}\nround {number} table 2 score 9-9-9\n"
+        )
     standings = event.standings()
     first[2] = None
     parts = page_of(sheets, file, "--title", "E").parts()
     assert shown_rows(parts["tables"]) == [*table_rows(event, number)], "a doubt, the table"
     assert shown_slips(parts["slips"]) == slips_due(event, number, "E"), "a doubt, the slip"
-    assert len(shown_standings(parts["standings"])[0]) == len(standings) - 1, "a doubt, the standings are the program's"
+    assert (
+        len(shown_standings(parts["standings"])[0]) == len(standings) - 1
+    ), "a doubt, the standings are the program's"
 
 
 @pytest.mark.needs("sheets and boards", module="jinja2", package="python3-jinja2")
@@ -193,7 +245,11 @@ def test_refused(sheets, program, room, dice, serve):
     assert (status, text, "such as `serve`" in errors) == (3, "", True), "refused, held by serve"
     for name in ("--help", "--version"):
         status, text, errors = sheets.printed(file, name, env={**os.environ, "COLUMNS": "80"})
-        assert (status, errors, text.startswith(("usage: ", "event-sheets (event_reporter) "))) == (0, "", True), name
+        assert (status, errors, text.startswith(("usage: ", "event-sheets (event_reporter) "))) == (
+            0,
+            "",
+            True,
+        ), name
         assert [it for it in text.split("\n") if len(it) > 80] == [], f"{name} fits 80 columns"
 
 
@@ -265,7 +321,12 @@ def test_watch_without_room(watching, program, room, dice):
     assert comes(lambda: 'class="score">2-1-0<' in open(page, encoding="utf-8").read()), "no room, it goes on"
     process.send_signal(signal.SIGINT)
     out, errors = process.communicate(timeout=PATIENCE)
-    assert (process.returncode, out, errors.count(b"board.html was not written"), b"Traceback" in errors) == (0, b"", 1, False), "no room, what is said"
+    assert (process.returncode, out, errors.count(b"board.html was not written"), b"Traceback" in errors) == (
+        0,
+        b"",
+        1,
+        False,
+    ), "no room, what is said"
 
 
 @pytest.mark.needs("sheets and boards", module="jinja2", package="python3-jinja2")

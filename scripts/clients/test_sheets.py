@@ -59,12 +59,15 @@ def test_into_a_file_that_is_named(sheets, words):
     assert sheets.there() == ["friday.event", "page.html"]
 
 
-@pytest.mark.parametrize("status, words", [
-    (1, ["none.event"]),
-    (1, ["friday.event", "--round", "9"]),
-    (1, ["none.event", "--board"]),
-    (3, ["friday.event", "--program", "/none"]),
-])
+@pytest.mark.parametrize(
+    "status, words",
+    [
+        (1, ["none.event"]),
+        (1, ["friday.event", "--round", "9"]),
+        (1, ["none.event", "--board"]),
+        (3, ["friday.event", "--program", "/none"]),
+    ],
+)
 def test_a_run_that_fails_leaves_the_page_before(sheets, status, words):
     sheets.lay("page.html")
     found, said, errors = sheets.printed(*words, "-o", "page.html")
@@ -85,14 +88,22 @@ def test_no_page_takes_the_place_of_the_event(sheets, option):
     with open(f"{sheets.room}/friday.event", "rb") as event:
         before = event.read()
     status, said, errors = sheets.printed("friday.event", option, "friday.event")
-    assert (status, said, errors) == (3, "", "event-sheets: friday.event is no page. Name one, as: page.html\n")
+    assert (status, said, errors) == (
+        3,
+        "",
+        "event-sheets: friday.event is no page. Name one, as: page.html\n",
+    )
     with open(f"{sheets.room}/friday.event", "rb") as event:
         assert event.read() == before
 
 
 def test_where_there_is_no_folder(sheets):
     status, said, errors = sheets.printed("friday.event", "-o", "none/page.html")
-    assert (status, said, errors) == (3, "", "event-sheets: none/page.html was not written: No such file or directory.\n")
+    assert (status, said, errors) == (
+        3,
+        "",
+        "event-sheets: none/page.html was not written: No such file or directory.\n",
+    )
 
 
 def test_one_place_alone(sheets):

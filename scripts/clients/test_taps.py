@@ -43,7 +43,9 @@ MEASURE = """(() => {
   const small = [...document.querySelectorAll('button, .button, nav a, summary, input:not([type=hidden]), select')].filter(seen).filter(it => Math.min(...size(it)) < LEAST);
   const letters = [...document.querySelectorAll('main *')].filter(it => seen(it) && it.childNodes.length && it.innerText && it.innerText.trim()).map(it => parseFloat(getComputedStyle(it).fontSize));
   return {wide: document.documentElement.scrollWidth, small: small.map(it => it.outerHTML.slice(0, 80)), letters: Math.min(...letters), paper: getComputedStyle(document.documentElement).backgroundColor};
-})()""".replace("LEAST", str(LEAST_TARGET))
+})()""".replace(
+    "LEAST", str(LEAST_TARGET)
+)
 
 
 # whoever has the browser's letters at twice their size reads all of it without moving it sideways (WCAG 2.2, 1.4.4)
@@ -77,7 +79,9 @@ def test_layout(program, room, dice, opened):
             for language in ("en", "de"):
                 phone = Phone(opened, is_dark=is_dark, language=language)
                 # names of all kinds, on each of the screens
-                pages = ["/", "/enter", "/?q=a", "/pairings", "/standings", *own[:3], *aims.values()][: 10 if language == "de" else 24]
+                pages = ["/", "/enter", "/?q=a", "/pairings", "/standings", *own[:3], *aims.values()][
+                    : 10 if language == "de" else 24
+                ]
                 pages += [f"{aims[1]}?s=2-1-0", f"{aims[2]}?x=1&y=1&d=3", f"{aims[1]}X"]
                 for page in pages:
                     phone.go(at + page)
@@ -86,13 +90,21 @@ def test_layout(program, room, dice, opened):
                     assert found["wide"] <= WIDTH, f"{name}, no wider than a phone"
                     assert found["small"] == [], f"{name}, all is easily hit"
                     assert found["letters"] >= 13, f"{name}, letters"
-                    assert phone.value(WIDE_IN_LARGE_LETTERS) <= WIDTH, f"{name}, no wider in letters of twice the size"
+                    assert (
+                        phone.value(WIDE_IN_LARGE_LETTERS) <= WIDTH
+                    ), f"{name}, no wider in letters of twice the size"
                     papers.setdefault(is_dark, set()).add(found["paper"])
-        assert [sorted(it) for it in papers.values()] == [["rgb(255, 255, 255)"], ["rgb(17, 17, 17)"]], "light and dark"
+        assert [sorted(it) for it in papers.values()] == [
+            ["rgb(255, 255, 255)"],
+            ["rgb(17, 17, 17)"],
+        ], "light and dark"
         by_keys(Phone(opened), at, aims[3])
         by_typing(Phone(opened, language="de"), at, 4, aims[4].rsplit("/", 1)[1])
         without_scripts(Phone(opened), at)
-        scores = {int(it.split(",")[1]): "-".join(it.split(",")[4:]) for it in asked(program.path, ["export", file, "results"]).split("\n")[1:-1]}
+        scores = {
+            int(it.split(",")[1]): "-".join(it.split(",")[4:])
+            for it in asked(program.path, ["export", file, "results"]).split("\n")[1:-1]
+        }
         assert (scores[3], scores[4]) == ("2-1-0", "0-2-0"), "by keys, and by what was typed"
 
 
@@ -161,9 +173,16 @@ class Play:
         """The next round, by the key that the prompt has for it."""
         number = len(self.event.stored) + 1
         text = self.say(" ".join(["pair", *words]))
-        key = [line.split() for line in open(f"{self.file}.keys") if line.startswith(f"round {number} ") and "unused" not in line][-1][2]
+        key = [
+            line.split()
+            for line in open(f"{self.file}.keys")
+            if line.startswith(f"round {number} ") and "unused" not in line
+        ][-1][2]
         answer = self.event.pair(number, bytes.fromhex(key))
-        assert (answer[0] in text, "\n".join(self.event.slips(number)) in text) == (True, True), f"round {number} is paired"
+        assert (answer[0] in text, "\n".join(self.event.slips(number)) in text) == (
+            True,
+            True,
+        ), f"round {number} is paired"
 
     def targets(self):
         """What is scanned at each table, from the printed slips."""
@@ -185,10 +204,15 @@ class Play:
         return text
 
     def play_round(self, gateway):
-        number, tables = len(self.event.stored), [at for at, match in enumerate(self.event.stored[-1], 1) if match[1]]
+        number, tables = len(self.event.stored), [
+            at for at, match in enumerate(self.event.stored[-1], 1) if match[1]
+        ]
         codes = self.targets()
         assert sorted(codes) == tables, f"round {number}, a code for each table"
-        assert comes(lambda: f"Round {number}: 0 of {len(tables)}" in gateway.ask("GET", "/", port=gateway.desk_port)[2]), f"round {number}, the phones see it"
+        assert comes(
+            lambda: f"Round {number}: 0 of {len(tables)}"
+            in gateway.ask("GET", "/", port=gateway.desk_port)[2]
+        ), f"round {number}, the phones see it"
         if number == 2:
             self.go_back(gateway, codes, tables)
         scores = {table: self.dice.choice(SCORES) for table in tables}
@@ -198,7 +222,9 @@ class Play:
             self.report(number, table, score, True)
         self.contradict(gateway, codes, number, self.dice.choice(tables), scores)
         self.drop_home(number, home)
-        assert asked(self.program.path, ["standings", self.file]) == "".join(f"{it}\n" for it in self.event.standings()), f"round {number}, standings"
+        assert asked(self.program.path, ["standings", self.file]) == "".join(
+            f"{it}\n" for it in self.event.standings()
+        ), f"round {number}, standings"
 
     def report(self, number, table, score, is_new):
         answer = self.event.report(number, table, tuple(map(int, score.split("-"))), is_new)
@@ -210,18 +236,26 @@ class Play:
         self.tap_all(gateway, codes, some, 0)
         number = len(self.event.stored)
         copies = self.say("back")
-        chosen = next(line.split()[0] for line in copies.split("\n") if f"before the pairing of round {number}" in line)
+        chosen = next(
+            line.split()[0] for line in copies.split("\n") if f"before the pairing of round {number}" in line
+        )
         text = self.say(f"back {chosen}", "y")
         assert "Round 2 was paired since" in text, "back names what came since"
         self.event = self.before
         self.pair("again")
         assert self.targets() == codes, "the same codes"
-        assert comes(lambda: f"Round {number}: 0 of {len(tables)}" in gateway.ask("GET", "/", port=gateway.desk_port)[2]), "the phones see it"
+        assert comes(
+            lambda: f"Round {number}: 0 of {len(tables)}"
+            in gateway.ask("GET", "/", port=gateway.desk_port)[2]
+        ), "the phones see it"
 
     def tap_all(self, gateway, codes, scores, home):
         number, lists = len(self.event.stored), [list(scores.items())[at::TABS] for at in range(TABS)]
         with concurrent.futures.ThreadPoolExecutor(TABS) as pool:
-            tapped = [pool.submit(self.tap_some, phone, gateway, codes, some, home) for phone, some in zip(self.phones, lists)]
+            tapped = [
+                pool.submit(self.tap_some, phone, gateway, codes, some, home)
+                for phone, some in zip(self.phones, lists)
+            ]
         # not in the threads: an `assert` there isn't counted
         for table, place, shown, said in itertools.chain.from_iterable(it.result() for it in tapped):
             assert place == f"Table {table}", f"round {number}, table {table}, where it is"
@@ -280,7 +314,9 @@ class Play:
             stage = len(self.event.stages)
             slot = next(at for at, match in enumerate(self.event.stages[-1], 1) if not match[2])
             score = self.dice.choice([(2, 0, 0), (1, 2, 0), (2, 1, 0)])
-            assert "ok " in self.say(f"play {stage} {slot} {' '.join(map(str, score))}"), f"stage {stage}, slot {slot}"
+            assert "ok " in self.say(
+                f"play {stage} {slot} {' '.join(map(str, score))}"
+            ), f"stage {stage}, slot {slot}"
             self.event.play(stage, slot, score)
 
 
@@ -292,11 +328,20 @@ class PlayByLinks(Play):
     def targets(self):
         # event-phones has the key of the codes, so that strips are printed once it serves
         self.strips = self.strips or self.of_strips()
-        return {table: self.strips[self.scans(table)[0]] for table, match in enumerate(self.event.stored[-1], 1) if match[1]}
+        return {
+            table: self.strips[self.scans(table)[0]]
+            for table, match in enumerate(self.event.stored[-1], 1)
+            if match[1]
+        }
 
     def of_strips(self):
         text = self.printed("links")
-        strips = dict(zip(map(int, re.findall(r'class="no">No (\d+)<', text)), re.findall(r'class="code">([A-Z-]{14})<', text)))
+        strips = dict(
+            zip(
+                map(int, re.findall(r'class="no">No (\d+)<', text)),
+                re.findall(r'class="code">([A-Z-]{14})<', text),
+            )
+        )
         assert sorted(strips) == list(range(1, len(self.event.names) + 1)), "a strip for each player"
         # so that none loads itself again between two taps
         return {number: f"/P/{number}/{code.replace('-', '')}?still=1" for number, code in strips.items()}
@@ -352,8 +397,14 @@ def test_event(request, program, prompt, sheets, dice, opened, kind):
             play.pair()
             play.play_round(gateway)
         play.play_off()
-        assert comes(lambda: 'class="seat champion"' in gateway.ask("GET", "/board")[2]), "the board has the champion"
+        assert comes(
+            lambda: 'class="seat champion"' in gateway.ask("GET", "/board")[2]
+        ), "the board has the champion"
         status, errors = gateway.interrupt()
         assert (status, errors) == (0, ""), "nothing on standard error"
-    assert rows_alone(play.file) == rows_of(play.event, "Friday Night"), "the file is that of the plain reading"
-    assert asked(program.path, ["bracket", play.file]) == "".join(f"{it}\n" for it in play.event.bracket()), "the bracket"
+    assert rows_alone(play.file) == rows_of(
+        play.event, "Friday Night"
+    ), "the file is that of the plain reading"
+    assert asked(program.path, ["bracket", play.file]) == "".join(
+        f"{it}\n" for it in play.event.bracket()
+    ), "the bracket"

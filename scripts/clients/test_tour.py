@@ -33,7 +33,11 @@ def test_documents(tour, documents):
 # ---- what they lead to
 
 FENCED = re.compile(r"^ *```.*?^ *```$", re.M | re.S)
-DOCUMENTS = sorted(os.path.relpath(it, TOP) for kind in ("*.md", "docs/*.md", "extras/*.md", "scripts/*.md", "scripts/*/*.md") for it in glob.glob(f"{TOP}/{kind}"))
+DOCUMENTS = sorted(
+    os.path.relpath(it, TOP)
+    for kind in ("*.md", "docs/*.md", "extras/*.md", "scripts/*.md", "scripts/*/*.md")
+    for it in glob.glob(f"{TOP}/{kind}")
+)
 
 
 def prose_of(document):

@@ -56,8 +56,22 @@ def test_a_slip_of_the_round_before_at_a_terminal(prompt, begun):
     told = one.read_for(b"r2> ")
     assert re.search(r"Round 2 was paired, at \d\d:\d\d, in another window\.", told), told
     text = one.send(" 0")
-    check_said("it asks", text, "Round 2 was paired meanwhile, at ", "in another window.", "Round 2, table 2: ", " 2-0-0 ", "Is this a score of round 2? (y or n) ")
-    check_said("no", one.send("n"), "Nothing was stored. Table 2 of round 1 has 0-2-0.", "To replace it: fix 1 2 X Y", "r2> ")
+    check_said(
+        "it asks",
+        text,
+        "Round 2 was paired meanwhile, at ",
+        "in another window.",
+        "Round 2, table 2: ",
+        " 2-0-0 ",
+        "Is this a score of round 2? (y or n) ",
+    )
+    check_said(
+        "no",
+        one.send("n"),
+        "Nothing was stored. Table 2 of round 1 has 0-2-0.",
+        "To replace it: fix 1 2 X Y",
+        "r2> ",
+    )
     assert scores(begun, 2) == [None, None]
     check_said("what is typed beneath r2> is of round 2", one.send("2 2 1"), "Round 2, table 2: ", "ok ")
     assert scores(begun, 2) == [None, (2, 1, 0)]
@@ -69,7 +83,9 @@ def test_a_slip_of_the_round_before_right_after_the_news(prompt, begun):
     one = prompt.terminal(begun, reads_slowly=True)
     prompt.said(begun, "2 0 2", "pair")
     assert "was paired, at " in one.read_for(b"r2> ")
-    check_said("it asks", one.send("2 2 0"), "Round 2 was paired meanwhile", "Is this a score of round 2? (y or n) ")
+    check_said(
+        "it asks", one.send("2 2 0"), "Round 2 was paired meanwhile", "Is this a score of round 2? (y or n) "
+    )
     check_said("yes", one.send("y"), "Round 2, table 2: ", "ok ", "r2> ")
     check_said("and then no more", one.send("1 2 0"), "Round 2, table 1: ", "ok ")
     assert scores(begun, 2) == [(2, 0, 0), (2, 0, 0)]
@@ -82,9 +98,18 @@ def test_lines_that_were_typed_ahead_are_of_the_round_that_was_shown(prompt, beg
     prompt.said(begun, "2 0 2", "pair")
     one.keys("1 0 2\r2 0 2\r")
     text = one.read_for(b"Round 2, table 2: ")
-    check_said("the first is asked for, and the second is no answer", text, "Round 2, table 1: ", "Is this a score of round 2?", "Table 1 of round 1 has 2-0-0.", "Round 2, table 2: ")
+    check_said(
+        "the first is asked for, and the second is no answer",
+        text,
+        "Round 2, table 1: ",
+        "Is this a score of round 2?",
+        "Table 1 of round 1 has 2-0-0.",
+        "Round 2, table 2: ",
+    )
     one.keys("n\r")
-    assert "Nothing was stored. Table 2 of round 1 has 0-2-0." in one.read_for(b"r2> "), "and so is the second"
+    assert "Nothing was stored. Table 2 of round 1 has 0-2-0." in one.read_for(
+        b"r2> "
+    ), "and so is the second"
     assert scores(begun, 2) == [None, None]
     assert one.end()[0] == 0
 
@@ -95,7 +120,9 @@ def test_a_slip_of_the_round_before_by_a_pipe(prompt, begun):
     prompt.said(begun, "2 0 2", "pair")
     one.process.stdin.write(b"2 2 0\nn\n")
     said = one.read_until(lambda text: b"To replace it" in text).decode()
-    check_said("it asks", said, "Round 2 was paired meanwhile", "Is this a score of round 2?", "Nothing was stored.")
+    check_said(
+        "it asks", said, "Round 2 was paired meanwhile", "Is this a score of round 2?", "Nothing was stored."
+    )
     check_said("where shows the round", one.send("where"), "round 2, 2 tables open")
     check_said("which is then asked for no more", one.send("2 2 0"), "Round 2, table 2", "ok ")
     assert scores(begun, 2) == [None, (2, 0, 0)]
@@ -112,9 +139,17 @@ def test_a_round_that_another_window_paired_again(prompt, begun):
         prompt.said(begun, "back 2", "y", "pair")
         if [match[:2] for match in read(begun).stored[1]] != before:
             break
-    assert "Another window went back to a copy, or played the event again. This is round " in unfilled(one.read_for(b"where"))
+    assert "Another window went back to a copy, or played the event again. This is round " in unfilled(
+        one.read_for(b"where")
+    )
     one.keys("1 2 0\r")
-    check_said("it asks", one.read_for(b"(y or n) "), "meanwhile", "Round 2, table 1: ", "Is this a score of round 2? (y or n) ")
+    check_said(
+        "it asks",
+        one.read_for(b"(y or n) "),
+        "meanwhile",
+        "Round 2, table 1: ",
+        "Is this a score of round 2? (y or n) ",
+    )
     one.send("n")
     assert scores(begun, 2) == [None, None]
     assert one.end()[0] == 0
@@ -144,7 +179,10 @@ def test_a_round_without_a_copy_is_told_at_once(prompt, program, begun):
     prompt.said(begun, "2 0 2")
     program.did("pair", begun, "2", "0" * 64)
     told = unfilled(one.read_for(b"r2> "))
-    assert "Round 2 was paired in another window. Without a copy from before it, round 2 can't be played again." in told, told
+    assert (
+        "Round 2 was paired in another window. Without a copy from before it, round 2 can't be played again."
+        in told
+    ), told
     assert one.end()[0] == 0
 
 
@@ -164,7 +202,11 @@ def test_who_goes_home_has_a_name(prompt, begun, extras):
 
     one = prompt.terminal(begun)
     first, second, _ = read(begun).stored[0][0]
-    Reports(begun).add(Report(time.strftime(TIME), 1, 1, first, second, Score(2, 0), "same", Score(2, 0), "10.0.0.7", (second,)))
+    Reports(begun).add(
+        Report(
+            time.strftime(TIME), 1, 1, first, second, Score(2, 0), "same", Score(2, 0), "10.0.0.7", (second,)
+        )
+    )
     told = one.read_for(b"drop ")
     assert f"{read(begun).names[second - 1]} ({second}) wants to go home after the round: drop" in told, told
     assert one.end()[0] == 0
@@ -179,12 +221,22 @@ def test_back_is_declined_while_serve_has_the_file(prompt, begun, serve):
     # the prompt was there first, and would have copied
     text = prompt.said(begun, "back 1", "y")
     assert "Go on from this copy?" not in text
-    check_said("declined", text, "Another program has", "most often `serve` in another window", "End it by Ctrl-C")
+    check_said(
+        "declined", text, "Another program has", "most often `serve` in another window", "End it by Ctrl-C"
+    )
     assert served.ask(POST).startswith(b"HTTP/1.1 200 ")
     served.kill()
-    assert [name for name in os.listdir(os.path.dirname(begun)) if ".away-" in name or name.endswith(".back")] == []
+    assert [
+        name for name in os.listdir(os.path.dirname(begun)) if ".away-" in name or name.endswith(".back")
+    ] == []
     assert scores(begun, 1) == [(2, 0, 0), (2, 0, 0)]
-    check_said("then it goes on", prompt.said(begun, "back 1", "y"), "The event that was in use is", "  1 2 0 0", "  2 2 0 0")
+    check_said(
+        "then it goes on",
+        prompt.said(begun, "back 1", "y"),
+        "The event that was in use is",
+        "  1 2 0 0",
+        "  2 2 0 0",
+    )
 
 
 def test_back_is_declined_if_serve_begins_while_it_asks(prompt, begun, serve):
@@ -220,7 +272,12 @@ def test_what_came_since_has_what_came_while_it_asked(prompt, begun):
 def test_a_missing_and_a_damaged_file_do_not_stop_back(prompt, begun):
     with open(begun, "r+b") as it:
         it.truncate(5000)
-    check_said("a damaged one", prompt.said(begun, "back 1", "y"), "The event that was in use is", "no round is paired yet")
+    check_said(
+        "a damaged one",
+        prompt.said(begun, "back 1", "y"),
+        "The event that was in use is",
+        "no round is paired yet",
+    )
     os.unlink(begun)
     for name in os.listdir(os.path.dirname(begun)):
         if name == f"{os.path.basename(begun)}-wal":
@@ -233,6 +290,7 @@ def test_a_missing_and_a_damaged_file_do_not_stop_back(prompt, begun):
 
 def test_a_round_that_was_paired_again_is_checked_by_its_own_key(prompt, program, begun, room):
     """Each copy and each key that lies there is tried, at the prompt and by the second reading."""
+
     def checks():
         for kind in ("players", "results"):
             with open(f"{room}/{kind}.csv", "wb") as it:
@@ -241,7 +299,10 @@ def test_a_round_that_was_paired_again_is_checked_by_its_own_key(prompt, program
         ran = subprocess.run(["bash", f"{TOP}/scripts/check", *paths], capture_output=True, timeout=PATIENCE)
         return ran.returncode, ran.stdout.decode()
 
-    good = 0, "round 1: as the rules pair it by its key\nround 2: as the rules pair it by its key\nChecked: 2 rounds. Nothing is wrong.\n"
+    good = (
+        0,
+        "round 1: as the rules pair it by its key\nround 2: as the rules pair it by its key\nChecked: 2 rounds. Nothing is wrong.\n",
+    )
     prompt.said(begun, "2 0 2", "pair")
     prompt.said(begun, "back 2", "y", "pair")
     check_said("the newer pairing", prompt.said(begun, "check 2"), "Round 2 is what its key gives")
@@ -249,10 +310,18 @@ def test_a_round_that_was_paired_again_is_checked_by_its_own_key(prompt, program
     prompt.said(begun, "back 3", "y")
     check_said("the older one again", prompt.said(begun, "check 2"), "Round 2 is what its key gives")
     assert checks() == good
-    other = next(key for key in (f"{number:064x}" for number in range(1000)) if pairing_by(begun, key) != pairing(begun))
+    other = next(
+        key
+        for key in (f"{number:064x}" for number in range(1000))
+        if pairing_by(begun, key) != pairing(begun)
+    )
     with open(f"{begun}.keys") as it:
         first = it.readline()
     with open(f"{begun}.keys", "w") as it:
         it.write(f"{first}round 2 {other}\n")
-    check_said("a key that is not its own", prompt.said(begun, "check 2"), "Round 2 is not what a copy made before it gives by a key of it.")
+    check_said(
+        "a key that is not its own",
+        prompt.said(begun, "check 2"),
+        "Round 2 is not what a copy made before it gives by a key of it.",
+    )
     assert checks()[0] == 1

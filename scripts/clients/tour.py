@@ -33,9 +33,21 @@ class Tour:
             os.symlink(os.path.abspath(program), f"{place}/event_reporter")
         shutil.copytree(f"{TOP}/examples", f"{room}/examples")
         path = ":".join((f"{room}/commands", f"{TOP}/extras", os.environ["PATH"]))
-        env = {**os.environ, "PATH": path, "EVENT_REPORTER": f"{room}/commands/event_reporter", "PYTHONDONTWRITEBYTECODE": "1"}
+        env = {
+            **os.environ,
+            "PATH": path,
+            "EVENT_REPORTER": f"{room}/commands/event_reporter",
+            "PYTHONDONTWRITEBYTECODE": "1",
+        }
         self.port, self.behind = str(free_port()), None
-        self.how = {"shell": True, "cwd": room, "env": env, "stdout": subprocess.PIPE, "stderr": subprocess.STDOUT, "stdin": subprocess.DEVNULL}
+        self.how = {
+            "shell": True,
+            "cwd": room,
+            "env": env,
+            "stdout": subprocess.PIPE,
+            "stderr": subprocess.STDOUT,
+            "stdin": subprocess.DEVNULL,
+        }
 
     def printed(self, typed, lines):
         """What the line prints; of one that goes on behind the others, this many lines."""

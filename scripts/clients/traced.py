@@ -17,7 +17,13 @@ def can_trace():
 
 def system_calls(words, typed, log):
     """The system calls of a command that write, each by its name and how often that came by then. What it runs has others."""
-    run = subprocess.run(["strace", "-o", log, "-e", f"trace={WRITES}", *words], input=typed, capture_output=True, timeout=PATIENCE, env=LETTERS)
+    run = subprocess.run(
+        ["strace", "-o", log, "-e", f"trace={WRITES}", *words],
+        input=typed,
+        capture_output=True,
+        timeout=PATIENCE,
+        env=LETTERS,
+    )
     assert (run.returncode in (0, 1), run.stderr) == (True, b""), (run.returncode, run.stderr)
     counts, found = {}, []
     with open(log, errors="replace") as it:
@@ -38,5 +44,7 @@ def killing(name, nth):
 
 def is_killed_in(call, words, typed):
     """Whether the command was killed there."""
-    ran = subprocess.run([*killing(*call), *words], input=typed, capture_output=True, timeout=PATIENCE, env=LETTERS)
+    ran = subprocess.run(
+        [*killing(*call), *words], input=typed, capture_output=True, timeout=PATIENCE, env=LETTERS
+    )
     return ran.returncode in (-9, 137)

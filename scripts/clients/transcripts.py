@@ -11,7 +11,14 @@ def sent(line):
     """The bytes of a line that is sent."""
     end = b"" if line.endswith(b"\\c") else b"\n"
     text = line[2:].replace(b"ZERO", b"0" * 64)
-    return re.sub(rb"\\(?:x([0-9a-f]{2})|([trc]))", lambda it: bytes([int(it[1], 16)]) if it[1] else ESCAPES[it[2]], text) + end
+    return (
+        re.sub(
+            rb"\\(?:x([0-9a-f]{2})|([trc]))",
+            lambda it: bytes([int(it[1], 16)]) if it[1] else ESCAPES[it[2]],
+            text,
+        )
+        + end
+    )
 
 
 def parts_of(file):

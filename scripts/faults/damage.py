@@ -18,7 +18,16 @@ import subprocess
 import sys
 import tempfile
 
-from scripts.clients.event_files import bytes_in, copied, due, make_old, rows_alone, rows_of, rows_of_copy, words_of
+from scripts.clients.event_files import (
+    bytes_in,
+    copied,
+    due,
+    make_old,
+    rows_alone,
+    rows_of,
+    rows_of_copy,
+    words_of,
+)
 from scripts.clients.program import Program
 from scripts.clients.tally import check, dice_of, end
 from scripts.faults import damaged_bytes
@@ -33,9 +42,18 @@ from scripts.words import LIBRARY, PROGRAM, SEED, Word, given_by
 
 READINGS = ("standings", "players", "bracket")
 WRONGLY = "wrongly"
-REFUSALS = {number: (due([f"refused {number} {name}"]),) * 3 for number, name in ((25, "Store"), (27, "NoEvent"), (29, "Damaged"))}
+REFUSALS = {
+    number: (due([f"refused {number} {name}"]),) * 3
+    for number, name in ((25, "Store"), (27, "NoEvent"), (29, "Damaged"))
+}
 # how many of the damages of a round are of this kind, if it is more than one
-WEIGHTS = {"a value set": 4, "tables without keys": 3, "a trick": 6, "rows of another event": 9, "bytes turned": 2}
+WEIGHTS = {
+    "a value set": 4,
+    "tables without keys": 3,
+    "a trick": 6,
+    "rows of another event": 9,
+    "bytes turned": 2,
+}
 
 Outcome = collections.namedtuple("Outcome", "kind read answer change faults")
 
@@ -58,11 +76,16 @@ class Template:
 
     def make(self, program, library, folder):
         self.program, self.library = program, library
-        self.logged, self.closed, self.whole = (f"{folder}/{it}/e.event" for it in ("logged", "closed", "whole"))
+        self.logged, self.closed, self.whole = (
+            f"{folder}/{it}/e.event" for it in ("logged", "closed", "whole")
+        )
         for file in (self.logged, self.closed, self.whole):
             os.makedirs(os.path.dirname(file))
         (begin, first), *others = self.states
-        names = [line.split("\t")[1] for line, _ in itertools.takewhile(lambda it: it[0].startswith("enrol\t"), others)]
+        names = [
+            line.split("\t")[1]
+            for line, _ in itertools.takewhile(lambda it: it[0].startswith("enrol\t"), others)
+        ]
         with open(f"{folder}/names.csv", "w", encoding="utf-8") as it:
             it.writelines(f"{line}\n" for line in ["name", *names])
         if first.version == 1:
@@ -127,10 +150,17 @@ def chosen(dice, count, longest):
 
 def check_other_playoffs():
     """If the standings can no longer seed it, another playoff has the seeds that were there."""
-    for what, change in (("a player less", lambda event: event.names.pop()), ("a cut of 3", lambda event: setattr(event, "cut", 3))):
+    for what, change in (
+        ("a player less", lambda event: event.names.pop()),
+        ("a cut of 3", lambda event: setattr(event, "cut", 3)),
+    ):
         for number in range(10):
             event = Event(1, 2)
-            event.names, event.phase, event.stored = [*"ABCD"], SWISS, [[[1, 4, (2, 0, 0)], [2, 3, (2, 1, 0)]]]
+            event.names, event.phase, event.stored = (
+                [*"ABCD"],
+                SWISS,
+                [[[1, 4, (2, 0, 0)], [2, 3, (2, 1, 0)]]],
+            )
             event.end_rounds()
             change(event)
             damaged_events.other_playoff(random.Random(number), event)
@@ -142,7 +172,11 @@ def check_other_playoffs():
 
 def kinds():
     """What is damaged, and the kinds of damage to it, each as many times as it comes in a round of them."""
-    parts = (("rows", damaged_rows.KINDS), ("whole", damaged_bytes.FILE_KINDS), ("logged", damaged_bytes.LOG_KINDS))
+    parts = (
+        ("rows", damaged_rows.KINDS),
+        ("whole", damaged_bytes.FILE_KINDS),
+        ("logged", damaged_bytes.LOG_KINDS),
+    )
     return [(part, kind) for part, those in parts for kind in those for _ in range(WEIGHTS.get(kind, 1))]
 
 
@@ -163,11 +197,20 @@ def change_of_log(before, after):
     """How opening a file changed its log, in which nothing that is read may change; or None."""
     if after == before:
         return None
-    same = next((at for at, (one, other) in enumerate(zip(before, after)) if one != other), min(len(before), len(after)))
+    same = next(
+        (at for at, (one, other) in enumerate(zip(before, after)) if one != other),
+        min(len(before), len(after)),
+    )
     read = committed(before)
     if read > same:
         return WRONGLY
-    return "an end put to its log" if read else "a log without a head begun anew" if len(before) > HEAD + FRAME else "an empty log begun anew"
+    return (
+        "an end put to its log"
+        if read
+        else "a log without a head begun anew"
+        if len(before) > HEAD + FRAME
+        else "an empty log begun anew"
+    )
 
 
 def change_of(before, after):
@@ -176,7 +219,13 @@ def change_of(before, after):
     if set(after) != set(before):
         return WRONGLY
     if after[file] != before[file]:
-        return WRONGLY if before[file] else "an empty file begun, with the log that was there" if log in before else "an empty file begun"
+        return (
+            WRONGLY
+            if before[file]
+            else "an empty file begun, with the log that was there"
+            if log in before
+            else "an empty file begun"
+        )
     return change_of_log(before.get(log, b""), after.get(log, b"")) or "none"
 
 
@@ -256,17 +305,33 @@ class Damages:
                 faults.append("C SQLite reads something else afterwards")
             if not change and due_answers and read_by_sqlite(file, shutil.copy) != due_answers:
                 faults.append("C SQLite reads something else of the file alone afterwards")
-            if not faults and name_of(answers) == "an event" and kind.startswith("SQL: ") and kind != f"SQL: {damaged_rows.UNREAD_KIND}":
+            if (
+                not faults
+                and name_of(answers) == "an event"
+                and kind.startswith("SQL: ")
+                and kind != f"SQL: {damaged_rows.UNREAD_KIND}"
+            ):
                 faults += filter(None, [self.migration_fault(file)])
-            return Outcome(kind, name_of(due_answers), name_of(answers), change, [f"seed {self.seed}, damage {number}, {kind}: {it}" for it in faults])
+            return Outcome(
+                kind,
+                name_of(due_answers),
+                name_of(answers),
+                change,
+                [f"seed {self.seed}, damage {number}, {kind}: {it}" for it in faults],
+            )
 
 
 def told(outcomes):
     """The counts of each kind of damage, of what C SQLite reads, and of the answers; and of how refused files were changed."""
     counts = collections.Counter(it[:3] for it in outcomes)
     changes = collections.Counter(it.change for it in outcomes if it.change)
-    lines = [f"{count:6} {kind}: C SQLite reads {read}, answered: {answer}" for (kind, read, answer), count in sorted(counts.items())]
-    return lines + [f"{count:6} refused files, changed: {change}" for change, count in sorted(changes.items())]
+    lines = [
+        f"{count:6} {kind}: C SQLite reads {read}, answered: {answer}"
+        for (kind, read, answer), count in sorted(counts.items())
+    ]
+    return lines + [
+        f"{count:6} refused files, changed: {change}" for change, count in sorted(changes.items())
+    ]
 
 
 def main(program, library, count, seed, jobs, templates, longest):
@@ -294,5 +359,18 @@ def main(program, library, count, seed, jobs, templates, longest):
 
 if __name__ == "__main__":
     count, jobs = Word(int, "how many damages are tried"), Word(int, "how many at once")
-    templates, longest = Word(int, "how many random events have files that are damaged"), Word(int, "how many enrolments each of them has at most, and how many other commands")
-    main(**given_by(__doc__, program=PROGRAM, library=LIBRARY, count=count, seed=SEED, jobs=jobs, templates=templates, longest=longest))
+    templates, longest = Word(int, "how many random events have files that are damaged"), Word(
+        int, "how many enrolments each of them has at most, and how many other commands"
+    )
+    main(
+        **given_by(
+            __doc__,
+            program=PROGRAM,
+            library=LIBRARY,
+            count=count,
+            seed=SEED,
+            jobs=jobs,
+            templates=templates,
+            longest=longest,
+        )
+    )

@@ -34,14 +34,19 @@ def any_place(dice, data):
 def turn(dice, data):
     for _ in range(dice.choice((1, 1, 1, 2, 4, 16))):
         at = any_place(dice, data)
-        data[at] = dice.choice((data[at] ^ 1 << dice.randrange(8), dice.randrange(256), 0, 255, (data[at] + 1) % 256))
+        data[at] = dice.choice(
+            (data[at] ^ 1 << dice.randrange(8), dice.randrange(256), 0, 255, (data[at] + 1) % 256)
+        )
     return data
 
 
 def exchange_parts(dice, data, head, size):
     count = (len(data) - head) // size
     if count:
-        one, other = (slice(head + it * size, head + (it + 1) * size) for it in (dice.randrange(count), dice.randrange(count)))
+        one, other = (
+            slice(head + it * size, head + (it + 1) * size)
+            for it in (dice.randrange(count), dice.randrange(count))
+        )
         data[one], data[other] = data[other], data[one]
     return data
 
@@ -91,7 +96,9 @@ def of_file(change):
 
 
 def of_log(change):
-    return lambda dice, file, _others: changed(f"{file}-wal", lambda data: change(dice, data) if len(data) > HEAD else data)
+    return lambda dice, file, _others: changed(
+        f"{file}-wal", lambda data: change(dice, data) if len(data) > HEAD else data
+    )
 
 
 def others_log(dice, file, others):
@@ -107,7 +114,11 @@ def no_log(_dice, file, _others):
 
 
 def add_bytes(dice, file, _others):
-    changed(any_part(dice, file), lambda data: data + dice.choice((dice.randbytes, bytes))(dice.choice((1, 512, PAGE, FRAME + PAGE, 10_000))))
+    changed(
+        any_part(dice, file),
+        lambda data: data
+        + dice.choice((dice.randbytes, bytes))(dice.choice((1, 512, PAGE, FRAME + PAGE, 10_000))),
+    )
 
 
 # what is done to a file alone, and what to one with a log beside it

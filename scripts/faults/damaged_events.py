@@ -5,9 +5,38 @@ import copy
 
 from scripts.models.plain_event import BYE, PLAYOFF, SLOTS, SWISS
 
-NAMES = ("Ana", "Zoë", "大会 3", "-", "D", "a" * 60, "é" * 30, "大" * 20, "\u00a0x\u00a0", "\u0085", "007", "a  b", "\U0001f3b2", "\ufeffx")
+NAMES = (
+    "Ana",
+    "Zoë",
+    "大会 3",
+    "-",
+    "D",
+    "a" * 60,
+    "é" * 30,
+    "大" * 20,
+    "\u00a0x\u00a0",
+    "\u0085",
+    "007",
+    "a  b",
+    "\U0001f3b2",
+    "\ufeffx",
+)
 NO_NAMES = ("", " ", " Ana", "Ana ", "a" * 61, "é" * 31, "a\tb", "a\nb", "a\0b", "\0", "\x7f", "a" * 100_000)
-SCORES = (None, (2, 0, 0), (0, 2, 0), (2, 1, 0), (1, 1, 1), (0, 0, 0), (0, 0, 3), (2, 2, 0), (3, 0, 0), (0, 0, 4), (3, 3, 0), (0, 3, 0), (-1, 0, 0))
+SCORES = (
+    None,
+    (2, 0, 0),
+    (0, 2, 0),
+    (2, 1, 0),
+    (1, 1, 1),
+    (0, 0, 0),
+    (0, 0, 3),
+    (2, 2, 0),
+    (3, 0, 0),
+    (0, 0, 4),
+    (3, 3, 0),
+    (0, 3, 0),
+    (-1, 0, 0),
+)
 
 
 def any_match(dice, event):
@@ -70,17 +99,23 @@ def once_more(dice, event):
 
 def another_round(dice, event):
     most = len(event.names)
-    event.stored.append(dice.choice(([[dice.randint(1, most + 1), 0, BYE]], [[1, 2, None]], [[most, 1, (2, 0, 0)]])))
+    event.stored.append(
+        dice.choice(([[dice.randint(1, most + 1), 0, BYE]], [[1, 2, None]], [[most, 1, (2, 0, 0)]]))
+    )
 
 
 def another_stage(dice, event):
     most = len(event.names)
-    event.stages.append(dice.choice(([[1, 2, None]], [[2, 1, (2, 0, 0)], [3, 4, (0, 2, 0)]], [[most, 1, (0, 1, 0)]])))
+    event.stages.append(
+        dice.choice(([[1, 2, None]], [[2, 1, (2, 0, 0)], [3, 4, (0, 2, 0)]], [[most, 1, (0, 1, 0)]]))
+    )
 
 
 def can_seed(event):
     """Whether the standings can seed a playoff. An earlier change may have taken away a player who has played, or set a cut that can't be."""
-    return event.cut in (0, *SLOTS) and all(it in (0, *event.numbers()) for matches in event.stored for match in matches for it in match[:2])
+    return event.cut in (0, *SLOTS) and all(
+        it in (0, *event.numbers()) for matches in event.stored for match in matches for it in match[:2]
+    )
 
 
 def other_playoff(dice, event):
@@ -92,7 +127,12 @@ def other_playoff(dice, event):
         event.stages, event.phase = [], SWISS
         event.end_rounds()
     for _ in range(dice.randrange(12)):
-        is_open = [(stage, slot) for stage, matches in enumerate(event.stages, 1) for slot, match in enumerate(matches, 1) if not match[2]]
+        is_open = [
+            (stage, slot)
+            for stage, matches in enumerate(event.stages, 1)
+            for slot, match in enumerate(matches, 1)
+            if not match[2]
+        ]
         if is_open:
             event.play(*dice.choice(is_open), dice.choice(((2, 0, 0), (0, 3, 1), (1, 0, 3))))
 
@@ -102,7 +142,11 @@ def other_playoff(dice, event):
 
 def other_number(dice, event):
     what = dice.choice(("rounds", "cut", "phase", "phase", "serial"))
-    setattr(event, what, dice.choice((0, 1, 2, 3, 4, 8, 9, 10, 12, 13, getattr(event, what) + dice.choice((-1, 1)))))
+    setattr(
+        event,
+        what,
+        dice.choice((0, 1, 2, 3, 4, 8, 9, 10, 12, 13, getattr(event, what) + dice.choice((-1, 1)))),
+    )
 
 
 def other_players(dice, event):
@@ -112,7 +156,9 @@ def other_players(dice, event):
     elif what == 1:
         event.names.append(dice.choice(("Late", "P1", *NAMES)))
     elif what == 2:
-        event.late[dice.choice([number, *event.late])] = dice.choice((0, 1, len(event.stored), len(event.stored) + 1, event.rounds, event.rounds + 1, -1, 256))
+        event.late[dice.choice([number, *event.late])] = dice.choice(
+            (0, 1, len(event.stored), len(event.stored) + 1, event.rounds, event.rounds + 1, -1, 256)
+        )
     elif what == 3 and event.names:
         event.names[number - 1] = dice.choice(NAMES + NO_NAMES + ("P1", "P2"))
     elif event.names:
@@ -125,8 +171,21 @@ def most_players(dice, event):
 
 
 CHANGES = (
-    other_player, exchange_players, exchange_sides, other_score, other_score, score_round, less, once_more, another_round, another_stage, other_playoff, other_playoff,
-    other_number, other_players, other_players,
+    other_player,
+    exchange_players,
+    exchange_sides,
+    other_score,
+    other_score,
+    score_round,
+    less,
+    once_more,
+    another_round,
+    another_stage,
+    other_playoff,
+    other_playoff,
+    other_number,
+    other_players,
+    other_players,
 )
 
 

@@ -9,7 +9,31 @@ from scripts.clients.event_files import rows_of
 from scripts.faults.damaged_events import NAMES, NO_NAMES, changed
 from scripts.models.plain_file import COLUMNS, PLAYERS, tables_of
 
-NUMBERS = (-1, 0, 1, 2, 3, 4, 8, 9, 10, 12, 13, 255, 256, 512, 513, 65_536, 999_999, 1_000_000, 2**31, 2**32, 2**63 - 1, -(2**31), -(2**63))
+NUMBERS = (
+    -1,
+    0,
+    1,
+    2,
+    3,
+    4,
+    8,
+    9,
+    10,
+    12,
+    13,
+    255,
+    256,
+    512,
+    513,
+    65_536,
+    999_999,
+    1_000_000,
+    2**31,
+    2**32,
+    2**63 - 1,
+    -(2**31),
+    -(2**63),
+)
 # numbers that look like the old one where their high bits are lost are among the new ones
 STEPS = (-2, -1, -1, 1, 1, 2, 256, -256, 65_536, 2**32, -(2**32), -(2**63))
 TEXTS = ("5", " 5", "5x", "1.0", "0x1", "1e2", "9223372036854775808", "x")
@@ -18,27 +42,82 @@ BLOBS = (b"", b"\0", b"\1", b"Ana", b"P1", b"\xff" * 70)
 REALS = (0.0, 1.0, -1.0, 0.5, 2.5, 1e300, float("inf"), 4294967296.0)
 
 PLAYER_TRICKS = (
-    "dropped = 2 * dropped", "dropped = -dropped", "dropped = 1 - dropped", "no = no + 1", "no = no - 1", "name = name || ' '", "name = ' ' || name",
-    "name = CAST(name || x'00' AS TEXT)", "name = CAST(name || x'ff' AS TEXT)", "name = ''",
+    "dropped = 2 * dropped",
+    "dropped = -dropped",
+    "dropped = 1 - dropped",
+    "no = no + 1",
+    "no = no - 1",
+    "name = name || ' '",
+    "name = ' ' || name",
+    "name = CAST(name || x'00' AS TEXT)",
+    "name = CAST(name || x'ff' AS TEXT)",
+    "name = ''",
 )
 # what breaks one rule of a row, and leaves the event, the player or the match to be guessed from it
 TRICKS = {
     "event": (
-        "id = 2", "version = 3 - version", "version = version + 2", "serial = serial + 1000000", "serial = -1 - serial", "serial = serial + 4294967296",
-        "name = name || ' '", "phase = phase + 4", "phase = phase - 4", "rounds = 10", "rounds = 13", "rounds = rounds + 256", "cut = cut + 2",
+        "id = 2",
+        "version = 3 - version",
+        "version = version + 2",
+        "serial = serial + 1000000",
+        "serial = -1 - serial",
+        "serial = serial + 4294967296",
+        "name = name || ' '",
+        "phase = phase + 4",
+        "phase = phase - 4",
+        "rounds = 10",
+        "rounds = 13",
+        "rounds = rounds + 256",
+        "cut = cut + 2",
     ),
     "player": PLAYER_TRICKS,
-    "player2": (*PLAYER_TRICKS, "joined = 1 - joined", "joined = joined - 1", "joined = joined + 1", "joined = joined + 256", "joined = 0"),
+    "player2": (
+        *PLAYER_TRICKS,
+        "joined = 1 - joined",
+        "joined = joined - 1",
+        "joined = joined + 1",
+        "joined = joined + 256",
+        "joined = 0",
+    ),
     "pairing": (
-        "lo = hi, hi = lo, swapped = 1 - swapped", "swapped = 2 * swapped", "swapped = -swapped", "done = 2 * done", "done = -done", "round = round + 1", "tab = tab + 1",
-        "x = x + 1 - done", "y = y - 1 + done", "d = d + 1 - done", "swapped = 1 - swapped, x = y, y = x", "tab = 0", "lo = 0",
+        "lo = hi, hi = lo, swapped = 1 - swapped",
+        "swapped = 2 * swapped",
+        "swapped = -swapped",
+        "done = 2 * done",
+        "done = -done",
+        "round = round + 1",
+        "tab = tab + 1",
+        "x = x + 1 - done",
+        "y = y - 1 + done",
+        "d = d + 1 - done",
+        "swapped = 1 - swapped, x = y, y = x",
+        "tab = 0",
+        "lo = 0",
     ),
     "bracket": (
-        "stage = stage + 1", "slot = slot + 1", "done = 2 * done", "done = -done", "x = x + 1 - done", "d = d + 1 - done", "d = d + 4", "x = x + 4", "x = y, y = x",
-        "a = b, b = a, x = y, y = x", "x = y", "a = 0", "b = a", "done = 0, x = 0, y = 0, d = 0",
+        "stage = stage + 1",
+        "slot = slot + 1",
+        "done = 2 * done",
+        "done = -done",
+        "x = x + 1 - done",
+        "d = d + 1 - done",
+        "d = d + 4",
+        "x = x + 4",
+        "x = y, y = x",
+        "a = b, b = a, x = y, y = x",
+        "x = y",
+        "a = 0",
+        "b = a",
+        "done = 0, x = 0, y = 0, d = 0",
     ),
     "tally": (
-        "no = no + 1", "points = points + 1", "rounds = rounds + 1", "gamepoints = gamepoints + 1", "games = games + 1", "points = points + 256", "games = games + 65536",
+        "no = no + 1",
+        "points = points + 1",
+        "rounds = rounds + 1",
+        "gamepoints = gamepoints + 1",
+        "games = games + 1",
+        "points = points + 256",
+        "games = games + 65536",
     ),
 }
 
@@ -87,7 +166,9 @@ def any_table(dice, base, event):
 
 
 def rowids_by_key(base, table):
-    return [it for it, in base.execute(f"SELECT rowid FROM {table} ORDER BY {', '.join(columns_of(table)[:2])}")]
+    return [
+        it for it, in base.execute(f"SELECT rowid FROM {table} ORDER BY {', '.join(columns_of(table)[:2])}")
+    ]
 
 
 def any_rowid(dice, base, table):
@@ -109,7 +190,9 @@ def random_value(dice, old):
     if what < 0.65:
         return "?", dice.choice(NUMBERS)
     kinds = (NAMES, NO_NAMES, TEXTS, BLOBS, REALS, (None,))
-    return ("CAST(? AS TEXT)", dice.choice(NO_TEXTS)) if what > 0.95 else ("?", dice.choice(dice.choice(kinds)))
+    return (
+        ("CAST(? AS TEXT)", dice.choice(NO_TEXTS)) if what > 0.95 else ("?", dice.choice(dice.choice(kinds)))
+    )
 
 
 # ---- damages to rows
@@ -149,7 +232,9 @@ def copy_row(dice, base, event):
     """A row once more, under another key."""
     table = any_table(dice, base, event)
     columns = columns_of(table)
-    rows = base.execute(f"SELECT {', '.join(columns)} FROM {table} WHERE rowid = ?", (any_rowid(dice, base, table),)).fetchall()
+    rows = base.execute(
+        f"SELECT {', '.join(columns)} FROM {table} WHERE rowid = ?", (any_rowid(dice, base, table),)
+    ).fetchall()
     row = list(rows[0]) if rows else [0] * len(columns)
     for at in (0, dice.randrange(len(row)), dice.randrange(len(row))):
         row[at] = random_value(dice, row[at])[1]
@@ -159,7 +244,12 @@ def copy_row(dice, base, event):
 def insert_row(dice, base, event):
     """A row of numbers that are near those of the event, or far from them."""
     table, most = dice.choice(tables_of(event.version)), len(event.names) + 1
-    row = [dice.choice(NAMES) if it == "name" else dice.choice((0, 1, 2, dice.randint(0, most), dice.choice(NUMBERS))) for it in columns_of(table)]
+    row = [
+        dice.choice(NAMES)
+        if it == "name"
+        else dice.choice((0, 1, 2, dice.randint(0, most), dice.choice(NUMBERS)))
+        for it in columns_of(table)
+    ]
     base.execute(f"INSERT INTO {table}({', '.join(columns_of(table))}) VALUES ({places(row)})", row)
 
 
@@ -184,7 +274,11 @@ def rename(dice, base, event):
     table = dice.choice(tables_of(event.version))
     column = dice.choice(columns_of(table))
     new = dice.choice((column + "2", "other", column.upper()))
-    base.execute(f"ALTER TABLE {table} RENAME COLUMN {column} TO {new}" if dice.random() < 0.7 else f"ALTER TABLE {table} RENAME TO {table}2")
+    base.execute(
+        f"ALTER TABLE {table} RENAME COLUMN {column} TO {new}"
+        if dice.random() < 0.7
+        else f"ALTER TABLE {table} RENAME TO {table}2"
+    )
 
 
 def players_of_other_version(dice, base, event):
@@ -216,7 +310,9 @@ def set_loosely(dice, base, event):
     """Tables without keys and checks, and then nothing more or one damage to rows."""
     for table in dice.sample(tables_of(event.version), dice.choice((1, 1, 5))):
         loosen(dice, base, table)
-    dice.choice((set_value, set_value, set_values, delete_rows, copy_row, insert_row, leave))(dice, base, event)
+    dice.choice((set_value, set_value, set_values, delete_rows, copy_row, insert_row, leave))(
+        dice, base, event
+    )
 
 
 def trick(dice, base, event):

@@ -27,7 +27,10 @@ class Stops:
 
     def complain(self, what, got, want):
         self.wrong += 1
-        print(f"seed {self.seed}, event {self.events}, stop {self.stops}, {what}: {got!r}, and not {want!r}", file=sys.stderr)
+        print(
+            f"seed {self.seed}, event {self.events}, stop {self.stops}, {what}: {got!r}, and not {want!r}",
+            file=sys.stderr,
+        )
 
     def line(self, line, answer):
         got = Program(self.program).run(*words_of(line, self.file))
@@ -57,7 +60,10 @@ class Stops:
             return None
         body = b'{"a":%d,"b":%d,"d":%d}' % self.dice.choice(SCORES)
         number, table = len(self.event.stored), self.dice.choice(tables)
-        return b"POST /rounds/%d/tables/%d HTTP/1.1\r\nContent-Length: %d\r\n\r\n" % (number, table, len(body)) + body
+        return (
+            b"POST /rounds/%d/tables/%d HTTP/1.1\r\nContent-Length: %d\r\n\r\n" % (number, table, len(body))
+            + body
+        )
 
     def post(self, serving, sent):
         """Hands a score in, and waits for the whole answer."""
@@ -89,7 +95,9 @@ class Stops:
         rows = rows_of_copy(self.file)
         is_after = rows == rows_of(after)
         if not is_after and (is_acknowledged or rows != rows_of(before)):
-            self.complain("the file", rows, rows_of(after) if is_acknowledged else [rows_of(before), rows_of(after)])
+            self.complain(
+                "the file", rows, rows_of(after) if is_acknowledged else [rows_of(before), rows_of(after)]
+            )
         self.event = after if is_after else before
         return is_after and after is not before
 
@@ -154,4 +162,6 @@ def main(program, count, seed):
 
 
 if __name__ == "__main__":
-    sys.exit(main(**given_by(__doc__, program=PROGRAM, count=Word(int, "how many stops are made"), seed=SEED)))
+    sys.exit(
+        main(**given_by(__doc__, program=PROGRAM, count=Word(int, "how many stops are made"), seed=SEED))
+    )

@@ -9,7 +9,17 @@ import signal
 import tempfile
 import time
 
-from scripts.clients.phone_rooms import SCORES, Burst, Gateway, children_of, copied_event, made, processes_of, results, targets
+from scripts.clients.phone_rooms import (
+    SCORES,
+    Burst,
+    Gateway,
+    children_of,
+    copied_event,
+    made,
+    processes_of,
+    results,
+    targets,
+)
 from scripts.clients.serving import hear_interrupts
 from scripts.clients.tally import check, dice_of, end, left_out
 from scripts.clients.waiting import comes
@@ -25,7 +35,9 @@ def kill(program, room, dice, turns, sizes):
     told = stored_in_all = kills = 0
     for turn in range(turns):
         what, players = ("event-phones", "the program", "both")[turn % 3], sizes[turn // 3 % len(sizes)]
-        name, file = f"turn {turn}, {what}, {players} players", copied_event(bases[players], f"{room}/{turn}.event")
+        name, file = f"turn {turn}, {what}, {players} players", copied_event(
+            bases[players], f"{room}/{turn}.event"
+        )
         serial = read(file).serial
         with Gateway(program, file) as gateway:
             aims = targets(program, file)
@@ -40,8 +52,16 @@ def kill(program, room, dice, turns, sizes):
         acknowledged = dict(burst.acknowledged)
         check(f"{name}, no program is left behind", comes(lambda: processes_of(file) == []), True)
         stored = {table: score for (_, table), score in results(program, file).items() if score}
-        check(f"{name}, what was acknowledged is stored", [it for it, score in acknowledged.items() if stored.get(it) != score], [])
-        check(f"{name}, what is stored was handed in", [it for it, score in stored.items() if scores[it] != score], [])
+        check(
+            f"{name}, what was acknowledged is stored",
+            [it for it, score in acknowledged.items() if stored.get(it) != score],
+            [],
+        )
+        check(
+            f"{name}, what is stored was handed in",
+            [it for it, score in stored.items() if scores[it] != score],
+            [],
+        )
         check(f"{name}, each is stored once", read(file).serial, serial + len(stored))
         told, stored_in_all = told + len(acknowledged), stored_in_all + len(stored)
         if turn < 6 or turn % 10 == 0:
@@ -51,7 +71,9 @@ def kill(program, room, dice, turns, sizes):
         for ending in ("", "-wal", ".reports", ".phones", ".turn", ".troubles"):
             with contextlib.suppress(FileNotFoundError):
                 os.unlink(file + ending)
-    print(f"kills: {kills} in {turns} bursts of {' and '.join(str(it // 2) for it in sizes)} phones; {told} scores were acknowledged, {stored_in_all} stored")
+    print(
+        f"kills: {kills} in {turns} bursts of {' and '.join(str(it // 2) for it in sizes)} phones; {told} scores were acknowledged, {stored_in_all} stored"
+    )
 
 
 def kill_now(gateway, also_the_program):
@@ -87,4 +109,11 @@ def main(program, bursts, seed):
 
 
 if __name__ == "__main__":
-    main(**given_by(__doc__, program=PROGRAM, bursts=Word(int, "how many bursts of scores, each with its kills"), seed=SEED))
+    main(
+        **given_by(
+            __doc__,
+            program=PROGRAM,
+            bursts=Word(int, "how many bursts of scores, each with its kills"),
+            seed=SEED,
+        )
+    )

@@ -84,7 +84,13 @@ def kill(prompt, room, dice, count):
     for at in range(count):
         file = f"{room}/{at}.event"
         prompt.said(file, "init Friday 2 2")
-        process = subprocess.Popen(prompt.words(file), stdin=subprocess.PIPE, stdout=subprocess.PIPE, stderr=subprocess.DEVNULL, env=LETTERS)
+        process = subprocess.Popen(
+            prompt.words(file),
+            stdin=subprocess.PIPE,
+            stdout=subprocess.PIPE,
+            stderr=subprocess.DEVNULL,
+            env=LETTERS,
+        )
         process.stdin.write("".join(f"{it}\n" for it in KILLED).encode())
         process.stdin.flush()
         process.stdout.readline()
@@ -95,11 +101,17 @@ def kill(prompt, room, dice, count):
         text = prompt.said(file)
         event = read(file)
         stopped.add(event.serial)
-        check(f"kill {at}, the next start", unfilled(where_due("Friday", file, event)) in unfilled(text), True)
+        check(
+            f"kill {at}, the next start", unfilled(where_due("Friday", file, event)) in unfilled(text), True
+        )
         check(f"kill {at}, the file", rows_alone(file), replayed(KILLED, file).get(event.serial))
         if os.path.isdir(f"{file}.copies"):
             copies = [it for it in os.listdir(f"{file}.copies") if it.endswith(".event")]
-            check(f"kill {at}, each copy is an event", [it for it in copies if rows_alone(f"{file}.copies/{it}") is None], [])
+            check(
+                f"kill {at}, each copy is an event",
+                [it for it in copies if rows_alone(f"{file}.copies/{it}") is None],
+                [],
+            )
     print(f"kills: {count}, at {len(stopped)} places of the script")
 
 

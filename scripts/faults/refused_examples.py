@@ -34,7 +34,13 @@ THIRD = [*SECOND, "result\t2\t1\t2\t0\t0", f"pair\t3\t{ZERO}"]
 SIX = [*(f"enrol\tP{it}" for it in range(1, 7)), "start", f"pair\t1\t{ZERO}"]
 DONE = [*SIX, *(f"result\t1\t{it}\t2\t0\t0" for it in (1, 2, 3)), "drop\t2"]
 SCORES = [(1, 1, "1\t1\t0"), (1, 1, "2\t0\t0"), (1, 2, "1\t2\t0"), (2, 1, "0\t2\t0"), (2, 1, "0\t2\t0")]
-WON = [*DONE, "standings", "cut", *(f"playoff\t{stage}\t{slot}\t{score}" for stage, slot, score in SCORES), "bracket"]
+WON = [
+    *DONE,
+    "standings",
+    "cut",
+    *(f"playoff\t{stage}\t{slot}\t{score}" for stage, slot, score in SCORES),
+    "bracket",
+]
 NAMES = ["Ana", "Bo", "Ana"]
 
 # the number of an example, its rounds, its cut, and its lines; if a list is imported, it has the names above
@@ -60,7 +66,9 @@ def get(target):
 
 def post(number, table, x, y, d):
     body = f'{{"a":{x},"b":{y},"d":{d}}}'
-    return f"POST /rounds/{number}/tables/{table} HTTP/1.1\r\nContent-Length: {len(body)}\r\n\r\n{body}".encode()
+    return (
+        f"POST /rounds/{number}/tables/{table} HTTP/1.1\r\nContent-Length: {len(body)}\r\n\r\n{body}".encode()
+    )
 
 
 STANDINGS, ROUND = get("/standings"), get("/rounds/1")
@@ -107,7 +115,11 @@ def answer_of(event, line):
     numbers = [int(it) for it in rest]
     if name in ("result", "playoff"):
         one, other, *score = numbers
-        return due(event.report(one, other, tuple(score), True) if name == "result" else event.play(one, other, tuple(score)))
+        return due(
+            event.report(one, other, tuple(score), True)
+            if name == "result"
+            else event.play(one, other, tuple(score))
+        )
     return due(getattr(event, {"cut": "end_rounds"}.get(name, name))(*numbers))
 
 
@@ -129,8 +141,16 @@ class Examples:
     def run_script(self, number, rounds, cut, lines):
         event = Event(rounds, cut)
         output = b"ok 0\n" + b"".join(out + err for _, out, err in [answer_of(event, line) for line in lines])
-        it = Script(self.program, self.library, [f"{line}\n".encode() for line in [f"init\t{NAME}\t{rounds}\t{cut}", *lines]])
-        wrong = it.faults(self.each) if it.output == output else [f"example {number}: {it.output}, and not {output}"]
+        it = Script(
+            self.program,
+            self.library,
+            [f"{line}\n".encode() for line in [f"init\t{NAME}\t{rounds}\t{cut}", *lines]],
+        )
+        wrong = (
+            it.faults(self.each)
+            if it.output == output
+            else [f"example {number}: {it.output}, and not {output}"]
+        )
         self.note("script", f"example {number}", it.count, wrong)
 
     def run_lines(self, number, rounds, cut, lines):
@@ -209,10 +229,20 @@ class Examples:
             except OSError:
                 # it didn't listen, so that what it says is asked for once more
                 words = [self.program, "serve", file, "0", "1"]
-                ran = subprocess.run(words, stdin=subprocess.DEVNULL, capture_output=True, env=refusing(self.library, nth), timeout=60)
+                ran = subprocess.run(
+                    words,
+                    stdin=subprocess.DEVNULL,
+                    capture_output=True,
+                    env=refusing(self.library, nth),
+                    timeout=60,
+                )
                 answers, end = [], (ran.returncode, ran.stdout, ran.stderr)
                 is_lawful = end == MEMORY
-            return None if is_lawful and rows_of_copy(file) == rows else f"serve, allocation {nth}: {answers}, {end}"
+            return (
+                None
+                if is_lawful and rows_of_copy(file) == rows
+                else f"serve, allocation {nth}: {answers}, {end}"
+            )
 
 
 def main(program, library, jobs):
@@ -229,7 +259,10 @@ def main(program, library, jobs):
         it.run_migrations(*MIGRATED)
     print("\n".join(it.wrong), file=sys.stderr, end="\n" if it.wrong else "")
     count = sum(it.allocations.values())
-    print(f"refused memory in worked examples: {count} allocations, each refused once: " + ", ".join(f"{number} by {kind}" for kind, number in it.allocations.items()))
+    print(
+        f"refused memory in worked examples: {count} allocations, each refused once: "
+        + ", ".join(f"{number} by {kind}" for kind, number in it.allocations.items())
+    )
     print(f"{count - len(it.wrong)} passed, {len(it.wrong)} failed")
     return 1 if it.wrong else 0
 

@@ -11,7 +11,15 @@ import subprocess
 import sys
 import tempfile
 
-from scripts.clients.event_files import copied, due, event_of_four, make_old, rows_alone, rows_of, rows_of_copy
+from scripts.clients.event_files import (
+    copied,
+    due,
+    event_of_four,
+    make_old,
+    rows_alone,
+    rows_of,
+    rows_of_copy,
+)
 from scripts.faults.refusing import chosen_allocations, no_cause_no_fault, refusing
 from scripts.models.plain_log import without_salts
 from scripts.words import LIBRARY, PROGRAM, Word, given_by
@@ -59,7 +67,13 @@ class Line:
     """A command line over a file in which an event stands, or over none. Lists that are imported lie beside the file."""
 
     def __init__(self, program, library, file, words, names=()):
-        self.program, self.library, self.file, self.words, self.names = os.path.abspath(program), library, file, words, names
+        self.program, self.library, self.file, self.words, self.names = (
+            os.path.abspath(program),
+            library,
+            file,
+            words,
+            names,
+        )
         self.seen = {}
         self.before = self.seen_of(file)
         with tempfile.TemporaryDirectory() as room:
@@ -77,7 +91,14 @@ class Line:
     def run(self, file, words, nth=None):
         """What a command line is answered, with this allocation refused."""
         env = dict(os.environ) if nth is None else refusing(self.library, nth)
-        ran = subprocess.run([self.program, words[0], file, *words[1:]], stdin=subprocess.DEVNULL, capture_output=True, env=env, cwd=os.path.dirname(file), timeout=60)
+        ran = subprocess.run(
+            [self.program, words[0], file, *words[1:]],
+            stdin=subprocess.DEVNULL,
+            capture_output=True,
+            env=env,
+            cwd=os.path.dirname(file),
+            timeout=60,
+        )
         return ran.returncode, ran.stdout, ran.stderr
 
     def seen_of(self, file):
@@ -88,7 +109,10 @@ class Line:
                 at, rows = copied(file, room), rows_of_copy(file)
                 shown = self.run(at, ["players"]), self.run(at, ["standings"])
                 alone = rows_alone(at)
-                self.seen[held] = rows if alone == rows else f"{rows}, and then the file alone {alone}", *shown
+                self.seen[held] = (
+                    rows if alone == rows else f"{rows}, and then the file alone {alone}",
+                    *shown,
+                )
         return self.seen[held]
 
     def imported(self, count):
@@ -101,7 +125,10 @@ class Line:
     def half_done(self):
         """The answers of an import that was not ended, each with what the file may hold then."""
         steps = [self.imported(count) for count in range(len(self.names) + 1)]
-        return [((4, out, b"refused 24 Memory\n"), (held, later)) for (out, held), (_, later) in zip(steps, steps[1:])]
+        return [
+            ((4, out, b"refused 24 Memory\n"), (held, later))
+            for (out, held), (_, later) in zip(steps, steps[1:])
+        ]
 
     def fault(self, nth):
         """What is wrong if this allocation is refused, or None."""
@@ -109,13 +136,24 @@ class Line:
             at = self.copy(room)
             got, held = self.run(at, self.words, nth), self.seen_of(at)
             is_half = any(got == answer and held in lawful for answer, lawful in self.halves)
-            if got == self.due and held == self.after or got == MEMORY and held in (self.before, self.after) or is_half:
+            if (
+                got == self.due
+                and held == self.after
+                or got == MEMORY
+                and held in (self.before, self.after)
+                or is_half
+            ):
                 return None
             return f"{self.words}, allocation {nth} of {self.count}: {got}, {held}"
 
     def faults(self, each, allocations):
         """What is wrong if these allocations are refused, which `each` goes through, as `map` does."""
-        calm = [out for _, *shown in (self.before, self.after, [None, self.due]) for answer in shown for out in answer[1:]]
+        calm = [
+            out
+            for _, *shown in (self.before, self.after, [None, self.due])
+            for answer in shown
+            for out in answer[1:]
+        ]
         wrong = [] if no_cause_no_fault(calm) else [f"{self.words}: a fault without a cause"]
         return wrong + [it for it in each(self.fault, allocations) if it]
 
@@ -139,7 +177,9 @@ def lines_of(program, library, room):
 def main(program, library, stride):
     allocations, wrong = 0, []
     # a command line waits for the disk most of the time
-    with tempfile.TemporaryDirectory() as room, concurrent.futures.ThreadPoolExecutor(len(os.sched_getaffinity(0))) as pool:
+    with tempfile.TemporaryDirectory() as room, concurrent.futures.ThreadPoolExecutor(
+        len(os.sched_getaffinity(0))
+    ) as pool:
         for it in lines_of(program, library, room):
             chosen = chosen_allocations(1, it.count, stride, LAST)
             allocations, wrong = allocations + len(chosen), wrong + it.faults(pool.map, chosen)

@@ -43,7 +43,11 @@ class Request:
         slip_after, _ = served_plainly(after, SLIP)
         self.before, self.after = rows(event), rows(after)
         self.as_ever = [self.due, slip_after], self.after
-        self.lacking = [([MEMORY, slip_before], self.before), ([MEMORY, NEEDS_REOPEN], self.before), ([MEMORY, NEEDS_REOPEN], self.after)]
+        self.lacking = [
+            ([MEMORY, slip_before], self.before),
+            ([MEMORY, NEEDS_REOPEN], self.before),
+            ([MEMORY, NEEDS_REOPEN], self.after),
+        ]
         self.first, self.last = self.allocations(NO_REQUEST) + 1, self.allocations(sent)
 
     def served_with(self, nth, *requests):
@@ -64,7 +68,10 @@ class Request:
         answers, end, rows = self.served_with(nth, self.sent, SLIP)
         if ((answers, rows) == self.as_ever or (answers, rows) in self.lacking) and end == served(2):
             return answers[0] == MEMORY, None
-        return answers[0] == MEMORY, f"{self.sent}, allocation {nth} of {self.first} to {self.last}: {answers}, {end}, {rows}"
+        return (
+            answers[0] == MEMORY,
+            f"{self.sent}, allocation {nth} of {self.first} to {self.last}: {answers}, {end}, {rows}",
+        )
 
     def faults(self, each, allocations):
         """How many answers reported out of memory, and what failed."""
@@ -72,13 +79,18 @@ class Request:
         is_calm = (answers, rows) == self.as_ever and end[:2] == served(2)[:2] and no_cause_no_fault(answers)
         tried = list(each(self.tried, allocations))
         wrong = [fault for _, fault in tried if fault]
-        return sum(is_lacking for is_lacking, _ in tried), wrong if is_calm else [f"{self.sent}: {answers}, {end}, {rows}, without a cause", *wrong]
+        return sum(is_lacking for is_lacking, _ in tried), wrong if is_calm else [
+            f"{self.sent}: {answers}, {end}, {rows}, without a cause",
+            *wrong,
+        ]
 
 
 def main(program, library, stride):
     count, lacking, wrong = 0, 0, []
     # a program that serves waits for the disk most of the time
-    with tempfile.TemporaryDirectory() as room, concurrent.futures.ThreadPoolExecutor(len(os.sched_getaffinity(0))) as pool:
+    with tempfile.TemporaryDirectory() as room, concurrent.futures.ThreadPoolExecutor(
+        len(os.sched_getaffinity(0))
+    ) as pool:
         template = f"{room}/e.event"
         make_four(program, template)
         for sent in REQUESTS:
@@ -87,7 +99,9 @@ def main(program, library, stride):
             told, faults = it.faults(pool.map, chosen)
             count, lacking, wrong = count + len(chosen), lacking + told, wrong + faults
     print("\n".join(wrong), file=sys.stderr, end="\n" if wrong else "")
-    print(f"refused memory while it serves: {count} allocations, each refused once, and {lacking} answers that say so")
+    print(
+        f"refused memory while it serves: {count} allocations, each refused once, and {lacking} answers that say so"
+    )
     print(f"{count - len(wrong)} passed, {len(wrong)} failed")
     return 1 if wrong else 0
 

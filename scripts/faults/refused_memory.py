@@ -25,11 +25,19 @@ class Script:
         ends = [len(self.run(commands[:count])[1]) for count in range(len(commands) + 1)]
         self.answers = [self.output[start:end] for start, end in zip(ends, ends[1:])]
         # what the commands after each are answered, if it was not sent
-        self.without = [self.run(commands[:at] + commands[at + 1 :])[1][end:] for at, end in enumerate(ends[:-1])]
+        self.without = [
+            self.run(commands[:at] + commands[at + 1 :])[1][end:] for at, end in enumerate(ends[:-1])
+        ]
 
     def run(self, commands, nth=0):
         """The status, the output and the errors, with this allocation refused, or none; then the errors say how many there were."""
-        ran = subprocess.run([self.program], input=b"".join(commands), capture_output=True, env=refusing(self.library, nth), timeout=60)
+        ran = subprocess.run(
+            [self.program],
+            input=b"".join(commands),
+            capture_output=True,
+            env=refusing(self.library, nth),
+            timeout=60,
+        )
         return ran.returncode, ran.stdout, ran.stderr
 
     def command_of(self, nth):
@@ -43,7 +51,12 @@ class Script:
             return [(0, self.output)]
         before, left = b"".join(answers[:at]), len(answers) - at - 1
         unread = [(4, MEMORY)] if at == 0 else []
-        return [(0, self.output), (0, before + MEMORY + self.without[at]), (0, before + MEMORY + NEEDS_REOPEN * left), *unread]
+        return [
+            (0, self.output),
+            (0, before + MEMORY + self.without[at]),
+            (0, before + MEMORY + NEEDS_REOPEN * left),
+            *unread,
+        ]
 
     def fault(self, nth):
         """What is wrong with the run in which this allocation is refused, or None."""

@@ -68,7 +68,11 @@ class Calls:
     def ways(self, line):
         """The calls of a command line with the ways to meddle with each. All that a reader does before its answer is to open the file."""
         opening = sum(not call.is_behind for call in self.calls("standings"))
-        return [(call, how) for call, how in ways(self.calls(line)) if call.nth > opening or (call.nth + self.lines) % self.stride == 0]
+        return [
+            (call, how)
+            for call, how in ways(self.calls(line))
+            if call.nth > opening or (call.nth + self.lines) % self.stride == 0
+        ]
 
     def lawful(self, answer, after, call, how):
         """What the command line may be answered, each with what the file may hold then."""
@@ -116,14 +120,20 @@ class Calls:
             self.before = after
             return
         tries = self.ways(line)
-        for (call, how), (is_refused, fault) in zip(tries, self.pool.map(lambda it: self.tried(line, answer, after, *it), tries)):
+        for (call, how), (is_refused, fault) in zip(
+            tries, self.pool.map(lambda it: self.tried(line, answer, after, *it), tries)
+        ):
             (self.stops if how in STOPS else self.faults)[call.is_behind] += 1
             self.refused += is_refused
             if fault:
-                self.wrong.append(f"{line!r}, {call}, {how}: {fault}; before {self.before.rows}, after {after.rows}")
+                self.wrong.append(
+                    f"{line!r}, {call}, {how}: {fault}; before {self.before.rows}, after {after.rows}"
+                )
         got = Program(self.program).run(*words_of(line, self.file))
         if got != due(answer) or rows_alone(self.file) != after.rows:
-            self.wrong.append(f"{line!r}: {got}, and not {due(answer)}, and the file alone holds {rows_alone(self.file)}")
+            self.wrong.append(
+                f"{line!r}: {got}, and not {due(answer)}, and the file alone holds {rows_alone(self.file)}"
+            )
         self.lines, self.before = self.lines + 1, after
 
 
@@ -151,8 +161,16 @@ def main(program, library, count, seed):
     dice = random.Random(seed)
     with concurrent.futures.ThreadPoolExecutor(len(os.sched_getaffinity(0))) as pool:
         calls = Calls(program, library, 1 if count else 4, pool)
-        plays = [lambda: play_playoff(calls.play), lambda: play_migration(calls, False), lambda: play_migration(calls, True), lambda: play_late(calls)]
-        plays += [lambda it=it: random_event(calls.play, dice, it, MOST, version_of(it)) for it in range(1, count + 1)]
+        plays = [
+            lambda: play_playoff(calls.play),
+            lambda: play_migration(calls, False),
+            lambda: play_migration(calls, True),
+            lambda: play_late(calls),
+        ]
+        plays += [
+            lambda it=it: random_event(calls.play, dice, it, MOST, version_of(it))
+            for it in range(1, count + 1)
+        ]
         for number, play in enumerate(plays, 1):
             with tempfile.TemporaryDirectory() as folder:
                 calls.begin(f"{folder}/e.event")
@@ -165,5 +183,8 @@ def main(program, library, count, seed):
 
 
 if __name__ == "__main__":
-    count = Word(int, "how many random events are played besides; with 0 each call that opens a file is tried in every fourth line")
+    count = Word(
+        int,
+        "how many random events are played besides; with 0 each call that opens a file is tried in every fourth line",
+    )
     sys.exit(main(**given_by(__doc__, program=PROGRAM, library=LIBRARY, count=count, seed=SEED)))

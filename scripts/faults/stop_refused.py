@@ -14,7 +14,9 @@ from scripts.faults.stopping import STOPS, calls_of, meddling, ways
 from scripts.words import LIBRARY, PROGRAM, given_by
 
 INIT, PLAYERS, MIGRATE = ("init", "E", "3", "0"), ("players",), ("migrate",)
-STORE, NO_EVENT, EXISTS, DAMAGED = (due([f"refused {it}"]) for it in ("25 Store", "27 NoEvent", "28 EventExists", "29 Damaged"))
+STORE, NO_EVENT, EXISTS, DAMAGED = (
+    due([f"refused {it}"]) for it in ("25 Store", "27 NoEvent", "28 EventExists", "29 Damaged")
+)
 
 
 def laid(file, data):
@@ -24,11 +26,16 @@ def laid(file, data):
 
 def kinds(program, room):
     """Files with a command that each refuses, the answer, and a command that comes after it, with its answer."""
-    empty, text, other, damaged, there, taken = (f"{room}/{it}" for it in ("empty", "text", "other", "damaged", "there", "taken"))
+    empty, text, other, damaged, there, taken = (
+        f"{room}/{it}" for it in ("empty", "text", "other", "damaged", "there", "taken")
+    )
     laid(empty, b"")
     laid(text, b"Ana\nBo\n" * 900)
     by_sqlite(other, "CREATE TABLE note(body TEXT)")
-    for file, statement in ((damaged, "UPDATE player2 SET no = 7 WHERE no = 2"), (there, "SELECT * FROM player2")):
+    for file, statement in (
+        (damaged, "UPDATE player2 SET no = 7 WHERE no = 2"),
+        (there, "SELECT * FROM player2"),
+    ):
         make_four(program, file)
         by_sqlite(file, statement)
     make_old(taken, event_of_four(1), others=((), ("CREATE TABLE player2(no INTEGER PRIMARY KEY)",)))
@@ -66,15 +73,23 @@ class Refused:
             file = copied(self.file, room)
             got = self.run(file, self.words, env=meddling(self.library, call.nth, how))
             lawful = [(-9, b"", b""), (-9, *self.answer[1:])] if how in STOPS else [STORE, self.answer]
-            is_kept, again, then = self.are_bytes_kept(file), self.run(file, self.words), self.run(file, self.then)
+            is_kept, again, then = (
+                self.are_bytes_kept(file),
+                self.run(file, self.words),
+                self.run(file, self.then),
+            )
             if got in lawful and is_kept and (again, then) == (self.answer, self.due):
                 return None
-            return f"{os.path.basename(self.file)}, {call}, {how}: {got}, kept: {is_kept}, then {again}, {then}"
+            return (
+                f"{os.path.basename(self.file)}, {call}, {how}: {got}, kept: {is_kept}, then {again}, {then}"
+            )
 
 
 def main(program, library):
     stops, faults, wrong = 0, 0, []
-    with tempfile.TemporaryDirectory() as room, concurrent.futures.ThreadPoolExecutor(len(os.sched_getaffinity(0))) as pool:
+    with tempfile.TemporaryDirectory() as room, concurrent.futures.ThreadPoolExecutor(
+        len(os.sched_getaffinity(0))
+    ) as pool:
         for kind in kinds(program, room):
             it = Refused(program, library, kind)
             tries = ways(it.calls())
@@ -82,7 +97,9 @@ def main(program, library):
             here = sum(how in STOPS for _, how in tries)
             stops, faults = stops + here, faults + len(tries) - here
     print("\n".join(wrong), file=sys.stderr, end="\n" if wrong else "")
-    print(f"stops in files that are refused: {stops} stops, {faults} faults of the device, {len(wrong)} wrong")
+    print(
+        f"stops in files that are refused: {stops} stops, {faults} faults of the device, {len(wrong)} wrong"
+    )
     return 1 if wrong else 0
 
 

@@ -12,14 +12,25 @@ import signal
 import sys
 import tempfile
 
-from scripts.clients.event_files import copied, due, event_of_four, make_four, rows_alone, rows_of, rows_of_copy
+from scripts.clients.event_files import (
+    copied,
+    due,
+    event_of_four,
+    make_four,
+    rows_alone,
+    rows_of,
+    rows_of_copy,
+)
 from scripts.clients.program import Program
 from scripts.clients.serving import Serving, hear_interrupts, served
 from scripts.faults.stopping import STOPS, calls_of, meddling, ways
 from scripts.models.plain_http import refusal, served as served_plainly
 from scripts.words import LIBRARY, PROGRAM, given_by
 
-POSTS = [b'POST /rounds/1/tables/%d HTTP/1.1\r\nContent-Length: 19\r\n\r\n{"a":2,"b":1,"d":0}' % it for it in (1, 2)]
+POSTS = [
+    b'POST /rounds/1/tables/%d HTTP/1.1\r\nContent-Length: 19\r\n\r\n{"a":2,"b":1,"d":0}' % it
+    for it in (1, 2)
+]
 REQUESTS = [*POSTS, b"GET /rounds/1/tables/1 HTTP/1.1\r\n\r\n"]
 STORE, NEEDS_REOPEN = refusal("refused 25 Store"), refusal("refused 26 NeedsReopen")
 SERVED = served(len(REQUESTS))
@@ -67,7 +78,9 @@ class Meddling:
         with tempfile.TemporaryDirectory() as room:
             file = copied(self.file, room)
             answers, end = self.served(file, call.nth, how)
-            known = next((at for at, (got, want) in enumerate(zip(answers, self.due)) if got != want), len(answers))
+            known = next(
+                (at for at, (got, want) in enumerate(zip(answers, self.due)) if got != want), len(answers)
+            )
             kept = min(known, len(POSTS))
             held, rows = self.events[kept : kept + 1 + (known < len(REQUESTS))], rows_of_copy(file)
             found = next((it for it in held if rows_of(it) == rows), None)
@@ -92,11 +105,15 @@ class Meddling:
 
 
 def main(program, library):
-    with tempfile.TemporaryDirectory() as folder, concurrent.futures.ThreadPoolExecutor(len(os.sched_getaffinity(0))) as pool:
+    with tempfile.TemporaryDirectory() as folder, concurrent.futures.ThreadPoolExecutor(
+        len(os.sched_getaffinity(0))
+    ) as pool:
         file = f"{folder}/e.event"
         make_four(program, file)
         it = Meddling(program, library, file)
-        ends = [(count, number) for count in range(len(REQUESTS)) for number in (signal.SIGKILL, signal.SIGINT)]
+        ends = [
+            (count, number) for count in range(len(REQUESTS)) for number in (signal.SIGKILL, signal.SIGINT)
+        ]
         wrong = [*filter(None, (it.ended(*end) for end in ends))]
         tries = ways(it.calls())
         wrong += filter(None, pool.map(lambda one: it.tried(*one), tries))

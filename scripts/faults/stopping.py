@@ -18,7 +18,10 @@ def calls_of(errors):
     """The calls of a run in which none was meddled with, from its errors."""
     letters = errors.decode().split()[-1]
     counted = [at for at, letter in enumerate(letters) if letter != "a"]
-    return [Call(nth, letters[at] == "w", letters[at + 1 : at + 2] in ("a", ""), "a" not in letters[at:]) for nth, at in enumerate(counted, 1)]
+    return [
+        Call(nth, letters[at] == "w", letters[at + 1 : at + 2] in ("a", ""), "a" not in letters[at:])
+        for nth, at in enumerate(counted, 1)
+    ]
 
 
 def ways(calls):

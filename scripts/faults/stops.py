@@ -36,7 +36,12 @@ class Stops:
     def stop(self, words):
         """Runs the words for a random while, and gives the status and what was printed."""
         begun = time.monotonic()
-        with subprocess.Popen([self.program, *words], stdin=subprocess.DEVNULL, stdout=subprocess.PIPE, stderr=subprocess.DEVNULL) as ran:
+        with subprocess.Popen(
+            [self.program, *words],
+            stdin=subprocess.DEVNULL,
+            stdout=subprocess.PIPE,
+            stderr=subprocess.DEVNULL,
+        ) as ran:
             time.sleep(self.dice.random() * 1.2 * self.length)
             ran.kill()
             out = ran.stdout.read()
@@ -50,7 +55,9 @@ class Stops:
         if rows == after:
             self.taken += 1
         elif rows != self.before or is_acknowledged:
-            self.complain(line, f"{rows}, and neither {self.before} nor {after}, acknowledged: {is_acknowledged}")
+            self.complain(
+                line, f"{rows}, and neither {self.before} nor {after}, acknowledged: {is_acknowledged}"
+            )
         return rows == after
 
     def texts_of(self, event):
@@ -101,9 +108,13 @@ def main(program, count, seed):
                 number += 1
     except Stopped:
         pass
-    print(f"stops: {stops.stops} in {number + 1} events, {stops.taken} after the command was written, {stops.acknowledged} of these acknowledged, {stops.wrong} wrong")
+    print(
+        f"stops: {stops.stops} in {number + 1} events, {stops.taken} after the command was written, {stops.acknowledged} of these acknowledged, {stops.wrong} wrong"
+    )
     return 1 if stops.wrong else 0
 
 
 if __name__ == "__main__":
-    sys.exit(main(**given_by(__doc__, program=PROGRAM, count=Word(int, "how many stops are made"), seed=SEED)))
+    sys.exit(
+        main(**given_by(__doc__, program=PROGRAM, count=Word(int, "how many stops are made"), seed=SEED))
+    )

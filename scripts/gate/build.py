@@ -28,7 +28,9 @@ class Crate(rt.Crate):
     def prove_library(self, flags):
         shutil.rmtree(os.path.dirname(self.rlib), ignore_errors=True)
         os.makedirs(os.path.dirname(self.rlib))
-        return self.call(rt.rtlib.RATTLE, "build", *self.words(flags, keeps=False), "--statements", "-o", self.rlib)
+        return self.call(
+            rt.rtlib.RATTLE, "build", *self.words(flags, keeps=False), "--statements", "-o", self.rlib
+        )
 
     def prove(self, *commands):
         """Over work that checks have kept there is no verdict, as `rt ci` wants one; each command has to end well all the same."""
@@ -41,7 +43,9 @@ class Crate(rt.Crate):
         if backend == "rattle":
             # it was there before LLVM's
             return 0
-        self.replace_by("rattle", words, to, "the program can be run now. LLVM's takes its place in some minutes")
+        self.replace_by(
+            "rattle", words, to, "the program can be run now. LLVM's takes its place in some minutes"
+        )
         return self.replace_by("llvm", words, to, "the program is LLVM's")
 
     def replace_by(self, backend, words, to, said):
@@ -62,7 +66,11 @@ class Crate(rt.Crate):
     def made_from(self):
         """What its library or the program is made from, and what was made."""
         made = [os.stat(it.product()) for it in [*self.below(), self]]
-        return [self.stamp(), rt.rtlib.text_of(f"{TOP}/HANDLES"), *([it.st_size, it.st_mtime_ns] for it in made)]
+        return [
+            self.stamp(),
+            rt.rtlib.text_of(f"{TOP}/HANDLES"),
+            *([it.st_size, it.st_mtime_ns] for it in made),
+        ]
 
     def keep(self, said):
         """Keeps what the toolchain said of it, for as long as it would say it again."""
@@ -140,7 +148,11 @@ def prove_all(wanted, is_anew):
     if is_anew:
         take_kept(left, proved)
         if proved:
-            print(f"event_reporter: {len(proved)} of {len(wanted)} are as they were when they were proved", file=sys.stderr, flush=True)
+            print(
+                f"event_reporter: {len(proved)} of {len(wanted)} are as they were when they were proved",
+                file=sys.stderr,
+                flush=True,
+            )
     started = len(proved)
     with concurrent.futures.ThreadPoolExecutor(rt.processors()) as lanes:
         while len(proved) < len(wanted):
@@ -148,7 +160,11 @@ def prove_all(wanted, is_anew):
             for crate, jobs in zip(ready, shares(ready, rt.processors() - sum(running.values()))):
                 left.remove(crate)
                 started += 1
-                print(f"event_reporter: proving {crate.name}, {started} of {len(wanted)}", file=sys.stderr, flush=True)
+                print(
+                    f"event_reporter: proving {crate.name}, {started} of {len(wanted)}",
+                    file=sys.stderr,
+                    flush=True,
+                )
                 running[lanes.submit(prove, crate, jobs, is_anew)] = jobs
             for it in concurrent.futures.wait(running, return_when=concurrent.futures.FIRST_COMPLETED).done:
                 del running[it]

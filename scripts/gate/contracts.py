@@ -92,7 +92,9 @@ def functions_of(crate):
 
 
 def output(*words):
-    return subprocess.run(words, cwd=TOP, stdout=subprocess.PIPE, stderr=subprocess.DEVNULL, encoding="utf-8").stdout
+    return subprocess.run(
+        words, cwd=TOP, stdout=subprocess.PIPE, stderr=subprocess.DEVNULL, encoding="utf-8"
+    ).stdout
 
 
 def clauses_of(file, lines):
@@ -113,22 +115,37 @@ def print_changed(commit):
     paths = output("git", "diff", "--name-only", commit, "--", "crates/*.rt").split()
     for path in (it for it in paths if it.endswith(".rt")):
         now = open(f"{TOP}/{path}", encoding="utf-8").read() if os.path.exists(f"{TOP}/{path}") else ""
-        old, new = (clauses_of(path, text.split("\n")) for text in (output("git", "show", f"{commit}:{path}"), now))
+        old, new = (
+            clauses_of(path, text.split("\n")) for text in (output("git", "show", f"{commit}:{path}"), now)
+        )
         changed = [name for name in sorted(old.keys() | new.keys()) if old.get(name) != new.get(name)]
         for name in changed:
-            print(f"{path}  {name} {'is new' if name not in old else 'is gone' if name not in new else 'changed'}")
+            print(
+                f"{path}  {name} {'is new' if name not in old else 'is gone' if name not in new else 'changed'}"
+            )
 
 
 def long_lines(crate):
     """The places of lines that have too many characters."""
-    return [f"{file}:{at}" for file, lines in files_of(crate, ".rt", ".antt") for at, it in enumerate(lines, 1) if len(it) > MOST_CHARACTERS]
+    return [
+        f"{file}:{at}"
+        for file, lines in files_of(crate, ".rt", ".antt")
+        for at, it in enumerate(lines, 1)
+        if len(it) > MOST_CHARACTERS
+    ]
 
 
 def print_counts(crates, functions):
-    print(f"{'crate':<15} functions  clauses  their lines  lines of bodies  lines of more than {MOST_CHARACTERS} characters")
+    print(
+        f"{'crate':<15} functions  clauses  their lines  lines of bodies  lines of more than {MOST_CHARACTERS} characters"
+    )
     for crate in crates:
         own = [it for it in functions if it.crate == crate]
-        clauses, lines, body = sum(len(it.clauses) for it in own), sum(it.lines for it in own), sum(it.body for it in own)
+        clauses, lines, body = (
+            sum(len(it.clauses) for it in own),
+            sum(it.lines for it in own),
+            sum(it.body for it in own),
+        )
         print(f"{crate:<15} {len(own):9} {clauses:8} {lines:12} {body:16} {len(long_lines(crate)):8}")
 
 
@@ -142,7 +159,9 @@ def print_long(functions):
 def print_recurring(functions):
     shapes = collections.Counter(LABEL.sub(r"\1 {", clause) for it in functions for clause in it.clauses)
     often = [(times, shape) for shape, times in shapes.most_common() if times > MOST_COPIES]
-    print(f"\n{len(often)} clauses that stand more than {MOST_COPIES} times to the letter, {sum(times for times, _ in often)} of {sum(shapes.values())}:")
+    print(
+        f"\n{len(often)} clauses that stand more than {MOST_COPIES} times to the letter, {sum(times for times, _ in often)} of {sum(shapes.values())}:"
+    )
     for times, shape in often:
         print(f"{times:5}  {shape}")
 
@@ -168,17 +187,33 @@ def print_fields(crates):
             if file.startswith(f"{crate}/specs/"):
                 for record, field in fields_in(lines):
                     having[field].append(record)
-    often = sorted(((len(records), field, records) for field, records in having.items() if len(records) > MOST_COPIES), key=lambda it: (-it[0], it[1]))
-    print(f"\n{len(often)} fields that more than {MOST_COPIES} records have by one name, {sum(times for times, *_ in often)} of {sum(map(len, having.values()))}:")
+    often = sorted(
+        ((len(records), field, records) for field, records in having.items() if len(records) > MOST_COPIES),
+        key=lambda it: (-it[0], it[1]),
+    )
+    print(
+        f"\n{len(often)} fields that more than {MOST_COPIES} records have by one name, {sum(times for times, *_ in often)} of {sum(map(len, having.values()))}:"
+    )
     for times, field, records in often:
         print(f"{times:5}  {field}: {', '.join(records)}")
 
 
 def main():
-    words = argparse.ArgumentParser(prog="scripts/contracts", description="Reports how long the contracts of all crates are, or of those that are named, and which clauses recur.")
+    words = argparse.ArgumentParser(
+        prog="scripts/contracts",
+        description="Reports how long the contracts of all crates are, or of those that are named, and which clauses recur.",
+    )
     words.add_argument("names", nargs="*", metavar="NAME", help="a crate")
-    words.add_argument("--places", action="store_true", help=f"name each line of more than {MOST_CHARACTERS} characters, and nothing else")
-    words.add_argument("--changed", metavar="COMMIT", help="name the clauses that are not as in this commit, and nothing else, as: --changed HEAD")
+    words.add_argument(
+        "--places",
+        action="store_true",
+        help=f"name each line of more than {MOST_CHARACTERS} characters, and nothing else",
+    )
+    words.add_argument(
+        "--changed",
+        metavar="COMMIT",
+        help="name the clauses that are not as in this commit, and nothing else, as: --changed HEAD",
+    )
     given = words.parse_args()
     if given.changed:
         print_changed(given.changed)

@@ -58,7 +58,14 @@ def read_specs():
                 imported(line, names)
                 head = HEAD.match(line)
                 name = head and (head[2] or head[3])
-                is_field = at and found[at][2] and line.startswith("  ") and head and not head[2] and not line.lstrip().startswith("abbrev")
+                is_field = (
+                    at
+                    and found[at][2]
+                    and line.startswith("  ")
+                    and head
+                    and not head[2]
+                    and not line.lstrip().startswith("abbrev")
+                )
                 if name and not is_field and not line.lstrip().startswith(("--", "use")):
                     at = f"{module}.{name}"
                     found.setdefault(at, ([], names, bool(head[2])))
@@ -71,7 +78,11 @@ def named(text, names, module, found):
     """The definitions that a text names."""
     for word in WORD.findall(text):
         first, _, rest = word.partition(".")
-        for path in (f"{module}.{first}", names.get(first, ""), f"{names.get(first, '')}.{rest.split('.')[0]}" if rest else ""):
+        for path in (
+            f"{module}.{first}",
+            names.get(first, ""),
+            f"{names.get(first, '')}.{rest.split('.')[0]}" if rest else "",
+        ):
             if path in found:
                 yield path
                 break
@@ -84,10 +95,14 @@ def clauses_of(crate, function, found):
         with open(path, encoding="utf-8") as it:
             text = it.read()
         begun = re.search(rf"^impl\b[^\n]*\b{owner[-1]}\b[^\n]*\{{$", text, re.M) if owner else None
-        head = re.compile(rf"^ *(?:pub )?fn {function}\b.*?^ *\{{$", re.M | re.S).search(text, begun.end() if begun else 0)
+        head = re.compile(rf"^ *(?:pub )?fn {function}\b.*?^ *\{{$", re.M | re.S).search(
+            text, begun.end() if begun else 0
+        )
         if head and (begun or not owner):
             names = {}
-            for line in re.sub(r"\{\n?(.*?)\}", lambda it: it[0].replace("\n", " "), text, flags=re.S).split("\n"):
+            for line in re.sub(r"\{\n?(.*?)\}", lambda it: it[0].replace("\n", " "), text, flags=re.S).split(
+                "\n"
+            ):
                 imported(line, names)
             _, *parts = CLAUSE.split(re.sub(r"//.*", "", head[0]))
             named_so = zip(parts[::2], parts[1::2])
@@ -119,12 +134,18 @@ def called_alike(found):
 
 
 def main():
-    words = argparse.ArgumentParser(description="Counts the definitions that the contract of a function rests on.")
+    words = argparse.ArgumentParser(
+        description="Counts the definitions that the contract of a function rests on."
+    )
     words.add_argument("crate", nargs="?")
     words.add_argument("function", nargs="?")
     words.add_argument("--clause", help="count what this clause rests on, in place of the whole contract")
     words.add_argument("--names", action="store_true", help="name each of them, with its lines")
-    words.add_argument("--twice", action="store_true", help="name the definitions that two modules call alike, in place of all that")
+    words.add_argument(
+        "--twice",
+        action="store_true",
+        help="name the definitions that two modules call alike, in place of all that",
+    )
     said = words.parse_args()
     found = read_specs()
     if said.twice:

@@ -21,7 +21,9 @@ def main():
         signal.signal(it, lambda number, _frame: stopped.append(number))
     # it says all in a file, since whoever reads standard error may wait for its end, and is in a session of its own, so that Ctrl-C doesn't stop it later
     with tempfile.TemporaryFile() as said:
-        at_work = subprocess.Popen(command, stdin=subprocess.DEVNULL, stdout=said, stderr=said, start_new_session=True)
+        at_work = subprocess.Popen(
+            command, stdin=subprocess.DEVNULL, stdout=said, stderr=said, start_new_session=True
+        )
         is_over, told = False, 0
         while not is_over and not stopped:
             is_over = at_work.poll() is not None or os.access(file, os.X_OK)

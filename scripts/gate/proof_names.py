@@ -108,7 +108,13 @@ def whole_lines(text):
     """The lines as they read before they were wrapped, each with its number: a paragraph, an item, a row or a heading."""
     whole = []
     for number, line in enumerate(text.split("\n"), 1):
-        if whole and line.strip() and whole[-1][1].strip() and not BEGINS.match(line) and whole[-1][1][0] not in "#|":
+        if (
+            whole
+            and line.strip()
+            and whole[-1][1].strip()
+            and not BEGINS.match(line)
+            and whole[-1][1][0] not in "#|"
+        ):
             whole[-1][1] += f" {line.strip()}"
         else:
             whole.append([number, line])
@@ -120,7 +126,9 @@ def missing_in(text, section=None):
     section, is_body = section or all_crates(), False
     for number, line in whole_lines(text):
         if line.startswith("#"):
-            section, is_body = CRATE.findall(line) or all_crates(), "rong bodies" in line or (is_body and line.startswith("###"))
+            section, is_body = CRATE.findall(line) or all_crates(), "rong bodies" in line or (
+                is_body and line.startswith("###")
+            )
         crates = CRATE.findall(line)
         for name in CODE.findall(line):
             asked = [*crates, *section] if not is_body else crates or all_crates()

@@ -16,7 +16,12 @@ import tempfile
 from scripts import TOP
 
 # the crates of tests
-TESTS, SLIPS_TESTS, CLI_TESTS, SESSIONS_TESTS = "er_desk_tests", "er_slips_tests", "er_cli_tests", "er_sessions_tests"
+TESTS, SLIPS_TESTS, CLI_TESTS, SESSIONS_TESTS = (
+    "er_desk_tests",
+    "er_slips_tests",
+    "er_cli_tests",
+    "er_sessions_tests",
+)
 WHOLE_EVENT, PAIRING = "stops::a_whole_event_survives_each_stop", "stops::a_pairing_survives_each_stop"
 ADOPTED = "desks::a_desk_answers_and_is_adopted"
 STAGES, TOTALS = "stores::stages_are_written", "stores::totals_are_kept"
@@ -84,7 +89,10 @@ def keep_tests(folder, wanted):
         elif name not in ("lib.rt", *(f"{it}.rt" for it in modules)):
             os.remove(path)
     shutil.rmtree(f"{folder}/proofs", ignore_errors=True)
-    write(f"{folder}/src/lib.rt", "#![tactic(auto)]\n\n" + "".join(f"#[cfg(test)]\nmod {it};\n" for it in modules))
+    write(
+        f"{folder}/src/lib.rt",
+        "#![tactic(auto)]\n\n" + "".join(f"#[cfg(test)]\nmod {it};\n" for it in modules),
+    )
     for name in modules:
         path = f"{folder}/src/{name}.rt"
         parts = re.split(r"(?ms)^((?:///[^\n]*\n)*#\[test\]\nfn (\w+)\(.*?^}\n)", read(path))
@@ -111,11 +119,30 @@ def outcomes(folder, tests, seconds=SECONDS):
     """What each test of a crate came to, by its name. If one failed, the line that says why is printed: a limit is no refusal."""
     keep_tests(folder, tests)
     words = ["rt", "try", "--test", "--seconds", str(seconds), "--steps", "1"]
-    ran = subprocess.run(words, cwd=folder, stdin=subprocess.DEVNULL, stdout=subprocess.PIPE, stderr=subprocess.STDOUT, text=True, errors="replace")
-    found = {name: re.search(rf"^test {name} \.\.\. (?:.*\n)*?.*?\b(ok|FAILED)\b", ran.stdout, re.M) for name in tests}
+    ran = subprocess.run(
+        words,
+        cwd=folder,
+        stdin=subprocess.DEVNULL,
+        stdout=subprocess.PIPE,
+        stderr=subprocess.STDOUT,
+        text=True,
+        errors="replace",
+    )
+    found = {
+        name: re.search(rf"^test {name} \.\.\. (?:.*\n)*?.*?\b(ok|FAILED)\b", ran.stdout, re.M)
+        for name in tests
+    }
     if not all(found.values()):
         print(ran.stdout, file=sys.stderr)
-    print("".join(f"{it}\n" for it in ran.stdout.splitlines() if "assertion" in it or "panicked" in it or "limit" in it), end="", flush=True)
+    print(
+        "".join(
+            f"{it}\n"
+            for it in ran.stdout.splitlines()
+            if "assertion" in it or "panicked" in it or "limit" in it
+        ),
+        end="",
+        flush=True,
+    )
     return {name: it[1] if it else "not run" for name, it in found.items()}
 
 
@@ -125,14 +152,33 @@ def tried(body):
     with tempfile.TemporaryDirectory() as room:
         copy_crates(room)
         apply(f"{room}/crates/{crate}", f"{TOP}/crates/{body}.edit")
-        found = outcomes(f"{room}/crates/{tests_crate}", tests, ENDLESS_SECONDS if body == ENDLESS else SECONDS)
-    return [f"{body}: {test} {outcome}" for test, outcome in found.items()], sum(it != "FAILED" for it in found.values())
+        found = outcomes(
+            f"{room}/crates/{tests_crate}", tests, ENDLESS_SECONDS if body == ENDLESS else SECONDS
+        )
+    return [f"{body}: {test} {outcome}" for test, outcome in found.items()], sum(
+        it != "FAILED" for it in found.values()
+    )
 
 
 def main():
-    words = argparse.ArgumentParser(prog="scripts/refused_by_tests", description="Builds tests with a wrong body in place and no proof, and asks that they fail.")
-    words.add_argument("jobs", type=int, nargs="?", default=1, metavar="JOBS", help="how many are built at once; without it, 1")
-    words.add_argument("names", nargs="*", metavar="NAME", help="a wrong body, such as refuses_without_cause; without one, all are tried")
+    words = argparse.ArgumentParser(
+        prog="scripts/refused_by_tests",
+        description="Builds tests with a wrong body in place and no proof, and asks that they fail.",
+    )
+    words.add_argument(
+        "jobs",
+        type=int,
+        nargs="?",
+        default=1,
+        metavar="JOBS",
+        help="how many are built at once; without it, 1",
+    )
+    words.add_argument(
+        "names",
+        nargs="*",
+        metavar="NAME",
+        help="a wrong body, such as refuses_without_cause; without one, all are tried",
+    )
     given = words.parse_args()
     bodies = [it for it in BODIES if not given.names or it.split("/")[-1] in given.names]
     wrong = 0

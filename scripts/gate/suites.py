@@ -55,9 +55,17 @@ def oom(is_long):
     if is_long:
         yield module("faults.refused_examples", PROGRAM, REFUSE, "2")
         return
-    yield module("faults.refused_memory", PROGRAM, REFUSE, "crates/event_reporter/stdin", "crates/event_reporter/stdout")
+    yield module(
+        "faults.refused_memory",
+        PROGRAM,
+        REFUSE,
+        "crates/event_reporter/stdin",
+        "crates/event_reporter/stdout",
+    )
     for name in ("corrected", "playoff"):
-        yield module("faults.refused_memory", PROGRAM, REFUSE, f"examples/{name}.txt", f"examples/{name}.answers")
+        yield module(
+            "faults.refused_memory", PROGRAM, REFUSE, f"examples/{name}.txt", f"examples/{name}.answers"
+        )
     yield module("faults.refused_file_memory", PROGRAM, REFUSE, "40")
     yield module("faults.refused_http_memory", PROGRAM, REFUSE, "40")
 
@@ -102,7 +110,11 @@ PARTS = {
     "draw": ("test_draw.py", "test_drawn_evenings.py", "test_event_check.py", "test_check_page.py"),
     "race": ("test_race.py",),
     "sheets": ("test_sheets.py", "test_sheet_pages.py", "test_layout.py"),
-    "phones": ("test_phones.py", "test_phones_served.py", module("faults.phone_kills", PROGRAM, (3, 1200), SEED)),
+    "phones": (
+        "test_phones.py",
+        "test_phones_served.py",
+        module("faults.phone_kills", PROGRAM, (3, 1200), SEED),
+    ),
     "taps": ("test_taps.py",),
     "http": ("test_http.py", "test_http_events.py", module("faults.http_stops", PROGRAM, (60, 1000), SEED)),
     "slow": (module("clients.slow_clients", PROGRAM),),
@@ -124,7 +136,9 @@ def compiled():
     """
     with tempfile.TemporaryDirectory() as kept:
         os.environ["PYTHONPYCACHEPREFIX"] = kept
-        subprocess.run([python(), "-m", "compileall", "-q", "extras/companions", "scripts"], cwd=TOP, check=True)
+        subprocess.run(
+            [python(), "-m", "compileall", "-q", "extras/companions", "scripts"], cwd=TOP, check=True
+        )
         yield
 
 
@@ -143,7 +157,20 @@ def passes(line):
 
 
 def suites_pass(names, given, rest):
-    line = [python(), "-B", "-m", "pytest", "-q", *names, "--program", given.program, "--seed", str(given.seed), *["--long"] * given.long, *rest]
+    line = [
+        python(),
+        "-B",
+        "-m",
+        "pytest",
+        "-q",
+        *names,
+        "--program",
+        given.program,
+        "--seed",
+        str(given.seed),
+        *["--long"] * given.long,
+        *rest,
+    ]
     return passes(line)
 
 
@@ -159,7 +186,11 @@ def filled(line, given, room):
 def library(name, room):
     path, source = f"{room}/{name.strip('{}')}.so", f"scripts/faults/{LIBRARIES[name]}"
     if not os.path.exists(path):
-        subprocess.run([os.environ.get("CC", "cc"), "-O1", "-shared", "-fPIC", "-o", path, source, "-ldl"], cwd=TOP, check=True)
+        subprocess.run(
+            [os.environ.get("CC", "cc"), "-O1", "-shared", "-fPIC", "-o", path, source, "-ldl"],
+            cwd=TOP,
+            check=True,
+        )
     return path
 
 
@@ -179,7 +210,9 @@ def module_of(line):
 def lines_running(path, is_long):
     """The lines by which parts run a script that is no suite."""
     steps = [step for part in PARTS for step in steps_of(part, is_long) if isinstance(step, list)]
-    return [line for step in steps for line in lines_of(step) if path == f"{module_of(line).replace('.', '/')}.py"]
+    return [
+        line for step in steps for line in lines_of(step) if path == f"{module_of(line).replace('.', '/')}.py"
+    ]
 
 
 def step_passes(step, given, rest, room):
@@ -187,7 +220,9 @@ def step_passes(step, given, rest, room):
         return step(given, rest)
     if rest:
         for line in lines_of(step):
-            print(f"left out: {module_of(line)}, as {' '.join(rest)} chooses among cases of pytest", flush=True)
+            print(
+                f"left out: {module_of(line)}, as {' '.join(rest)} chooses among cases of pytest", flush=True
+            )
         return True
     lines = [filled(line, given, room) for line in lines_of(step)]
     with concurrent.futures.ThreadPoolExecutor(len(lines)) as pool:
@@ -211,7 +246,9 @@ def cases_pass(cases, given, rest):
 def run(part, given, rest):
     """Whether all of a part has passed. What comes after a failure is run all the same."""
     steps = steps_of(part, given.long)
-    names = [f"scripts/{step if '/' in step else f'clients/{step}'}" for step in steps if isinstance(step, str)]
+    names = [
+        f"scripts/{step if '/' in step else f'clients/{step}'}" for step in steps if isinstance(step, str)
+    ]
     passed = [suites_pass(names, given, rest)] if names else []
     with tempfile.TemporaryDirectory() as room:
         passed += [step_passes(step, given, rest, room) for step in steps if not isinstance(step, str)]
@@ -219,11 +256,25 @@ def run(part, given, rest):
 
 
 def main():
-    words = argparse.ArgumentParser(prog="scripts/test", description="Without words, passes the tests, the gate among them. With a PART, runs that.", epilog=__doc__)
-    words.add_argument("parts", nargs="+", metavar="PART", help=f"{', '.join(PARTS)}; or a script, or a case of a suite")
+    words = argparse.ArgumentParser(
+        prog="scripts/test",
+        description="Without words, passes the tests, the gate among them. With a PART, runs that.",
+        epilog=__doc__,
+    )
+    words.add_argument(
+        "parts", nargs="+", metavar="PART", help=f"{', '.join(PARTS)}; or a script, or a case of a suite"
+    )
     words.add_argument("--long", action="store_true", help="try much more, outside the test command")
-    words.add_argument("--seed", type=int, default=commit_time(), metavar="N", help="play the random ones of this number again; without it, the time of the commit")
-    words.add_argument("--program", default=BUILT, metavar="FILE", help="the program; without it, the one that is built here")
+    words.add_argument(
+        "--seed",
+        type=int,
+        default=commit_time(),
+        metavar="N",
+        help="play the random ones of this number again; without it, the time of the commit",
+    )
+    words.add_argument(
+        "--program", default=BUILT, metavar="FILE", help="the program; without it, the one that is built here"
+    )
     given, rest = words.parse_known_args()
     print(f"seed {given.seed}", flush=True)
     unknown = [it for it in given.parts if "/" not in it and it not in PARTS]

@@ -58,7 +58,9 @@ TURNS = 5
 # What was not begun before the time was over.
 NOT_TRIED = "not tried"
 # What a proof file says of a name that it lost, and not of the contract.
-LOST_NAME = re.compile(r"has no field|is not in scope|has no `|was not admitted|was rejected|was not checked|were not checked|which is not proved")
+LOST_NAME = re.compile(
+    r"has no field|is not in scope|has no `|was not admitted|was rejected|was not checked|were not checked|which is not proved"
+)
 # What was refused by a proof's own text alone, which no longer fits what it is about, and by no goal.
 BY_TEXT = "refused by a proof's text alone"
 REFUSED = ("refused", BY_TEXT)
@@ -93,7 +95,14 @@ class WrongBody:
 
     @property
     def key(self):
-        return self.name, self.pairs, sorted(self.functions), self.by_hand, self.is_control, *[sorted(self.without)] * bool(self.without)
+        return (
+            self.name,
+            self.pairs,
+            sorted(self.functions),
+            self.by_hand,
+            self.is_control,
+            *[sorted(self.without)] * bool(self.without),
+        )
 
     def is_settled(self, said):
         """Whether what a check beside others said of it counts. That a wrong body passes is said alone."""
@@ -156,7 +165,16 @@ def sources_of(crate):
 
 def module_with(crate, owner):
     """The module that has this type."""
-    return next((module_of(file) for file, text in sources_of(crate) if re.search(rf"^pub(?:\([^)]*\))? (?:struct|enum) {owner}\b|^(?:struct|enum) {owner}\b", text, re.M)), "")
+    return next(
+        (
+            module_of(file)
+            for file, text in sources_of(crate)
+            if re.search(
+                rf"^pub(?:\([^)]*\))? (?:struct|enum) {owner}\b|^(?:struct|enum) {owner}\b", text, re.M
+            )
+        ),
+        "",
+    )
 
 
 def function_at(crate, text, end, file):
@@ -173,7 +191,12 @@ def is_asked(text, head):
 
 def functions_of(crate):
     """The functions of the crate that a hole can stand for: those that are no method of a trait, and in no cycle of calls."""
-    found = {path_of(crate, text, it, file) for file, text in sources_of(crate) for it in HEAD.finditer(text) if not is_asked(text, it)}
+    found = {
+        path_of(crate, text, it, file)
+        for file, text in sources_of(crate)
+        for it in HEAD.finditer(text)
+        if not is_asked(text, it)
+    }
     return {it for it in found if "\\" not in it and not os.path.isdir(proof_of(crate.folder, it, "+"))}
 
 
@@ -198,10 +221,16 @@ def read(path, crate):
         elif line.startswith("new:"):
             text = open(f"{crate.folder}/{file}", encoding="utf-8").read()
             if old is None or text.count(old) != 1:
-                sys.exit(f"{path}: an `old:` text stands {text.count(old or '')} times in {file}, and not once")
+                sys.exit(
+                    f"{path}: an `old:` text stands {text.count(old or '')} times in {file}, and not once"
+                )
             pairs.append((file, old, re.sub("^new: ?", "", line)))
             if not named:
-                functions.add(EXAMPLES if CONSTANT.search(old) else function_at(crate, text, text.index(old) + len(old), file))
+                functions.add(
+                    EXAMPLES
+                    if CONSTANT.search(old)
+                    else function_at(crate, text, text.index(old) + len(old), file)
+                )
             old = None
     if not pairs or None in functions:
         sys.exit(f"{path}: no function is around the change: name one by a line `in: MODULE::FUNCTION`")
@@ -210,18 +239,28 @@ def read(path, crate):
 
 def read_all(folder, crate):
     """The edits in a folder."""
-    return [read(f"{folder}/{it}", crate) for it in sorted(os.listdir(folder)) if it.endswith(".edit")] if os.path.isdir(folder) else []
+    return (
+        [read(f"{folder}/{it}", crate) for it in sorted(os.listdir(folder)) if it.endswith(".edit")]
+        if os.path.isdir(folder)
+        else []
+    )
 
 
 def controls_of(crate):
     """The edits of a crate that change nothing."""
-    return [dataclasses.replace(it, is_always=True, is_control=True) for it in read_all(f"{crate.folder}/controls", crate)]
+    return [
+        dataclasses.replace(it, is_always=True, is_control=True)
+        for it in read_all(f"{crate.folder}/controls", crate)
+    ]
 
 
 def handed_out(root):
     """The names that a crate's root hands out: those that are public there, and the last ones of the paths that it uses publicly."""
     uses = [re.sub(r"\w+::", "", it) for it in re.findall(r"^pub use ([^;]*);", root, re.M)]
-    return {*re.findall(r"\w+", " ".join(uses)), *re.findall(r"^pub (?:mod|fn|struct|enum) (\w+)", root, re.M)}
+    return {
+        *re.findall(r"\w+", " ".join(uses)),
+        *re.findall(r"^pub (?:mod|fn|struct|enum) (\w+)", root, re.M),
+    }
 
 
 def is_public(crate, function):
@@ -251,10 +290,16 @@ def of_turn(crate, bodies, turn):
     part = [*([it] for it in private), constants][turn % TURNS :: TURNS]
     of_public = [*public.values()][turn % PUBLIC_TURNS :: PUBLIC_TURNS]
     always = [it for it in bodies if it.is_always]
-    return always + [its[turn // PUBLIC_TURNS % len(its)] for its in of_public] + [it for its in part for it in its]
+    return (
+        always
+        + [its[turn // PUBLIC_TURNS % len(its)] for its in of_public]
+        + [it for its in part for it in its]
+    )
 
 
-OPEN_GOAL = re.compile(r"^note: (?:\./)?(src/\S+?\.rt):(\d+):\d+: it is not proved that .*? \(`([^`]+)`\)", re.M)
+OPEN_GOAL = re.compile(
+    r"^note: (?:\./)?(src/\S+?\.rt):(\d+):\d+: it is not proved that .*? \(`([^`]+)`\)", re.M
+)
 
 
 def clause_of(goal):
@@ -283,7 +328,11 @@ def goal_of(piece):
 def all_answers(crate, body):
     """The answers of the functions that a wrong body changes, each by its file and its goal."""
     files = {it for function in body.functions for it in answers_of(crate.folder, function)}
-    named = ((os.path.relpath(it, crate.folder), goal_of(piece)) for it in files for piece in pieces(open(it, encoding="utf-8").read()))
+    named = (
+        (os.path.relpath(it, crate.folder), goal_of(piece))
+        for it in files
+        for piece in pieces(open(it, encoding="utf-8").read())
+    )
     return frozenset((file, goal) for file, goal in named if goal)
 
 
@@ -292,7 +341,11 @@ def answered_in(crate, function, without):
     found = set()
     for it in answers_of(crate.folder, function):
         file = os.path.relpath(it, crate.folder)
-        read = [piece for piece in pieces(open(it, encoding="utf-8").read()) if (file, goal_of(piece)) not in without]
+        read = [
+            piece
+            for piece in pieces(open(it, encoding="utf-8").read())
+            if (file, goal_of(piece)) not in without
+        ]
         found |= {goal for piece in read for goal in re.findall(r"goal\.(returns[^\s()]*)", piece)}
     return found
 
@@ -300,10 +353,18 @@ def answered_in(crate, function, without):
 def unfit_in(crate, body, output):
     """The answers of a wrong body that the check refused: all of them if what it refused is none, as a lemma that they share."""
     found, left = set(), all_answers(crate, body) - body.without
-    files = {os.path.relpath(it, crate.folder): it for function in body.functions for it in answers_of(crate.folder, function)}
+    files = {
+        os.path.relpath(it, crate.folder): it
+        for function in body.functions
+        for it in answers_of(crate.folder, function)
+    }
     for file, line in re.findall(r"^(?:\./)?(proofs/\S+/Answers\.antt):(\d+):\d+: error: ", output, re.M):
         if file in files:
-            kept = [it for it in pieces(open(files[file], encoding="utf-8").read()) if (file, goal_of(it)) not in body.without]
+            kept = [
+                it
+                for it in pieces(open(files[file], encoding="utf-8").read())
+                if (file, goal_of(it)) not in body.without
+            ]
             ends = [*itertools.accumulate(it.count("\n") + 2 for it in kept)]
             at = bisect.bisect_left(ends, int(line))
             goal = goal_of(kept[at]) if at < len(kept) else None
@@ -321,12 +382,17 @@ def pattern_of(function):
 
 def lost_goals(output, function):
     """Whether the function's answers name a goal that is not there any more, so that another one may stand for it."""
-    return re.search(rf"^(?:\./)?{pattern_of(function)}/Answers\.antt:\d+:\d+: error: .*\.Goals` has no `", output, re.M)
+    return re.search(
+        rf"^(?:\./)?{pattern_of(function)}/Answers\.antt:\d+:\d+: error: .*\.Goals` has no `", output, re.M
+    )
 
 
 def has_lost_loop(body, output):
     """Whether the check refused an invariant of a function that the wrong body changes."""
-    return any(re.search(rf"^(?:\./)?{pattern_of(it)}/Invariants\.antt:\d+:\d+: error: ", output, re.M) for it in body.functions)
+    return any(
+        re.search(rf"^(?:\./)?{pattern_of(it)}/Invariants\.antt:\d+:\d+: error: ", output, re.M)
+        for it in body.functions
+    )
 
 
 def open_goals(crate, texts, output):
@@ -372,7 +438,11 @@ def said_of(crate, function, output, constants, open_in):
         return "proved"
     if "did not prove" in line[1] or function in open_in:
         return "refused"
-    told = [it for it in re.findall(rf"^(?:\./)?{pattern_of(function)}/\S+?:\d+:\d+: error: (.*)$", output, re.M) if not LOST_NAME.search(it)]
+    told = [
+        it
+        for it in re.findall(rf"^(?:\./)?{pattern_of(function)}/\S+?:\d+:\d+: error: (.*)$", output, re.M)
+        if not LOST_NAME.search(it)
+    ]
     return BY_TEXT if told else UNCLEAR
 
 
@@ -450,7 +520,13 @@ def checked(crate, texts, holes, without, flags, kept):
         leave_out(room, without)
         flags = ["--jobs", "1", *flags, *(["--allow-holes"] if holes else [])]
         words = [rt.rtlib.RATTLE, "check", *crate.words(flags, keeps=False), "--incremental", kept]
-        how = {"cwd": room, "stdin": subprocess.DEVNULL, "stdout": subprocess.PIPE, "stderr": subprocess.STDOUT, "errors": "replace"}
+        how = {
+            "cwd": room,
+            "stdin": subprocess.DEVNULL,
+            "stdout": subprocess.PIPE,
+            "stderr": subprocess.STDOUT,
+            "errors": "replace",
+        }
         ran = subprocess.run([*rt.rtlib.guarded(), *words], **how)
         if ran.returncode == -signal.SIGKILL:
             # most likely for memory, which the gate may have taken too
@@ -565,7 +641,13 @@ class Verdicts:
         return self.rows.get(sum_of(crate, body), {}).get("verdict")
 
     def add(self, crate, body, **said):
-        row = {"crate": crate.name, "edit": body.name, "functions": sorted(body.functions), **said, "sum": sum_of(crate, body)}
+        row = {
+            "crate": crate.name,
+            "edit": body.name,
+            "functions": sorted(body.functions),
+            **said,
+            "sum": sum_of(crate, body),
+        }
         with printing, open(self.path, "a", encoding="utf-8") as it:
             it.write(json.dumps(row) + "\n")
 
@@ -593,13 +675,20 @@ def open_as_they_are(crate, bodies, kept, shows, earlier):
 
 def is_refused(said, as_they_are):
     """Whether a wrong body is refused without some of its answers, where these goals stay open of the functions as they are: at a clause of which none is
-    open there. An open goal that names no clause is of all of them. One whose answer is there and doesn't fit says nothing."""
+    open there. An open goal that names no clause is of all of them. One whose answer is there and doesn't fit says nothing.
+    """
     unfit = {goal for _file, goal in said.unfit}
     told = [(function, goal) for function, goal in said.goals if goal not in unfit]
-    here, there = ({(function, clause_of(goal)) for function, goal in of_contract(goals)} for goals in (told, as_they_are))
+    here, there = (
+        {(function, clause_of(goal)) for function, goal in of_contract(goals)}
+        for goals in (told, as_they_are)
+    )
     all_of = {function for function, clause in there if not clause}
     some_of = {function for function, _clause in there}
-    is_beyond = any(function not in (all_of if clause else some_of) and (function, clause) not in there for function, clause in here)
+    is_beyond = any(
+        function not in (all_of if clause else some_of) and (function, clause) not in there
+        for function, clause in here
+    )
     return not said.lost_loop and (is_beyond or not as_they_are and said.verdict == "refused")
 
 
@@ -610,7 +699,9 @@ def again_without(crate, lost, kept, shows, earlier):
     found = {name: (Said(UNCLEAR), goals) for name, goals in as_they_are.items() if goals is None}
     said = judged(crate, [it for it in lost if it.name in as_they_are and it.name not in found], kept, shows)
     for name, it in said.items():
-        it.verdict = PASSED if it.verdict == PASSED else "refused" if is_refused(it, as_they_are[name]) else UNCLEAR
+        it.verdict = (
+            PASSED if it.verdict == PASSED else "refused" if is_refused(it, as_they_are[name]) else UNCLEAR
+        )
         found[name] = it, as_they_are[name]
     return found
 
@@ -630,30 +721,58 @@ def try_all(crate, bodies, shows, earlier=None, verdicts=None, work_in=None):
         found[it.name] = counted(it, said.verdict)
         if verdicts:
             unfit = sorted(goal for _file, goal in first.unfit)
-            open_in = {"open": sorted(said.goals), "open_as_it_is": None if as_they_are is None else sorted(as_they_are)}
+            open_in = {
+                "open": sorted(said.goals),
+                "open_as_it_is": None if as_they_are is None else sorted(as_they_are),
+            }
             verdicts.add(crate, it, first=first.verdict, unfit=unfit, **open_in, verdict=found[it.name])
 
-    with contextlib.nullcontext(f"{work_in}/{crate.name}") if work_in else tempfile.TemporaryDirectory(prefix="wrong-bodies-") as kept:
+    with contextlib.nullcontext(f"{work_in}/{crate.name}") if work_in else tempfile.TemporaryDirectory(
+        prefix="wrong-bodies-"
+    ) as kept:
         os.makedirs(kept, exist_ok=True)
         first = judged(crate, new, kept, shows, lambda it, said: is_lost(it, said) or add(it, said, said))
         lost = [it for it in new if it.name in first and is_lost(it, first[it.name])]
-        less = [dataclasses.replace(it, without=frozenset(first[it.name].unfit or all_answers(crate, it))) for it in lost]
+        less = [
+            dataclasses.replace(it, without=frozenset(first[it.name].unfit or all_answers(crate, it)))
+            for it in lost
+        ]
         again = again_without(crate, less, kept, shows, earlier)
         # others may not fit then, and what is left may prove less than nothing does; one that was judged by hand isn't tried so
-        unclear = [it for it in less if it.name in again and again[it.name][0].verdict == UNCLEAR and it.without != all_answers(crate, it)]
+        unclear = [
+            it
+            for it in less
+            if it.name in again
+            and again[it.name][0].verdict == UNCLEAR
+            and it.without != all_answers(crate, it)
+        ]
         bare = [it for it in unclear if again[it.name][0].unfit or not (it.by_hand or it.is_control)]
-        again.update(again_without(crate, [dataclasses.replace(it, without=all_answers(crate, it)) for it in bare], kept, shows, earlier))
+        again.update(
+            again_without(
+                crate,
+                [dataclasses.replace(it, without=all_answers(crate, it)) for it in bare],
+                kept,
+                shows,
+                earlier,
+            )
+        )
     for it in (it for it in lost if it.name in again):
         add(it, first[it.name], *again[it.name])
     if earlier:
-        earlier.add(crate, [it for it in new if it.is_always and found.get(it.name) in ("refused", BY_HAND, HELD)], found)
+        earlier.add(
+            crate,
+            [it for it in new if it.is_always and found.get(it.name) in ("refused", BY_HAND, HELD)],
+            found,
+        )
     found.update({it.name: NOT_TRIED for it in bodies if it.name not in found})
     with printing:
         for name, what in sorted(found.items()):
             if what not in ("refused", HELD):
                 print(f"{crate.name}/{name}: {what.upper()}", flush=True)
         if known:
-            print(f"{crate.name}: {known} were tried in an earlier run on this machine, and nothing that they stand on has changed")
+            print(
+                f"{crate.name}: {known} were tried in an earlier run on this machine, and nothing that they stand on has changed"
+            )
         print(f"{crate.name}: {told([found])}", flush=True)
     return found
 
@@ -668,9 +787,15 @@ def counted(body, what):
 def told(found):
     """How many were refused, passed, and were not tried."""
     counts = collections.Counter(it for said in found for it in said.values())
-    parts = [f"{counts['refused']} refused at a goal", f"{counts[PASSED]} passed", f"{counts[UNCLEAR]} unclear"]
+    parts = [
+        f"{counts['refused']} refused at a goal",
+        f"{counts[PASSED]} passed",
+        f"{counts[UNCLEAR]} unclear",
+    ]
     parts += [f"{counts[it]} {it}" for it in (BY_HAND, BY_TEXT, UNREAD) if counts[it]]
-    parts += [f"{counts[HELD]} of {counts[HELD] + counts[MISJUDGED]} controls not refused"] * (counts[HELD] + counts[MISJUDGED] > 0)
+    parts += [f"{counts[HELD]} of {counts[HELD] + counts[MISJUDGED]} controls not refused"] * (
+        counts[HELD] + counts[MISJUDGED] > 0
+    )
     return ", ".join(parts + [f"{counts[NOT_TRIED]} not tried for want of time"] * (counts[NOT_TRIED] > 0))
 
 
@@ -739,7 +864,9 @@ def try_beside(gate, work, shows, earlier, verdicts):
             for it in ready[:places]:
                 left.remove(it)
                 running.add(pool.submit(try_all, *it, shows, earlier, verdicts))
-            ended, running = concurrent.futures.wait(running, timeout=5, return_when=concurrent.futures.FIRST_COMPLETED)
+            ended, running = concurrent.futures.wait(
+                running, timeout=5, return_when=concurrent.futures.FIRST_COMPLETED
+            )
             found += [it.result() for it in ended]
             if not running and not ready:
                 time.sleep(5)
@@ -748,24 +875,61 @@ def try_beside(gate, work, shows, earlier, verdicts):
 
 def try_now(work, shows, jobs, verdicts, work_in):
     """Tries all, this many crates at once, over the libraries below as the session builds them."""
-    if any(it.build_rlib(["--jobs", "1"], anew=False) for crate, bodies in work if bodies for it in crate.below()):
+    if any(
+        it.build_rlib(["--jobs", "1"], anew=False) for crate, bodies in work if bodies for it in crate.below()
+    ):
         sys.exit("a library below could not be built")
     with concurrent.futures.ThreadPoolExecutor(jobs) as pool:
         return list(pool.map(lambda it: try_all(*it, shows, verdicts=verdicts, work_in=work_in), work))
 
 
 def main():
-    words = argparse.ArgumentParser(prog="scripts/wrong_bodies", description="Tries the wrong bodies of each crate, or of those that are named.")
+    words = argparse.ArgumentParser(
+        prog="scripts/wrong_bodies",
+        description="Tries the wrong bodies of each crate, or of those that are named.",
+    )
     words.add_argument("names", nargs="*", metavar="NAME")
-    words.add_argument("--beside-gate", metavar="LOG", help="begin with each crate once rt ci, whose output goes to LOG, has proved it")
-    words.add_argument("--turn", metavar="NUMBER", type=int, help="try what is tried each time, and of the others those whose turn this is")
-    words.add_argument("--minutes", metavar="NUMBER", type=int, help="begin no check after this many but of those tried each time; what is left is named, and is no fault")
-    words.add_argument("--only", metavar="EDIT", action="append", help="try this one, and no other that is not named so too")
+    words.add_argument(
+        "--beside-gate",
+        metavar="LOG",
+        help="begin with each crate once rt ci, whose output goes to LOG, has proved it",
+    )
+    words.add_argument(
+        "--turn",
+        metavar="NUMBER",
+        type=int,
+        help="try what is tried each time, and of the others those whose turn this is",
+    )
+    words.add_argument(
+        "--minutes",
+        metavar="NUMBER",
+        type=int,
+        help="begin no check after this many but of those tried each time; what is left is named, and is no fault",
+    )
+    words.add_argument(
+        "--only", metavar="EDIT", action="append", help="try this one, and no other that is not named so too"
+    )
     words.add_argument("--show", action="store_true", help="print what each check said")
-    words.add_argument("--strict", action="store_true", help="fail if one is unclear and was not judged by hand")
-    words.add_argument("--jobs", metavar="NUMBER", type=int, default=rt.processors(), help="try those of this many crates at once; without it, as many as there are processors")
-    words.add_argument("--verdicts", metavar="FILE", help="add a line of JSON for each that was tried to FILE, and leave out those of which it has one")
-    words.add_argument("--work-in", metavar="FOLDER", help="keep what checks have proved there, and use it, so that a run that is stopped goes on quickly")
+    words.add_argument(
+        "--strict", action="store_true", help="fail if one is unclear and was not judged by hand"
+    )
+    words.add_argument(
+        "--jobs",
+        metavar="NUMBER",
+        type=int,
+        default=rt.processors(),
+        help="try those of this many crates at once; without it, as many as there are processors",
+    )
+    words.add_argument(
+        "--verdicts",
+        metavar="FILE",
+        help="add a line of JSON for each that was tried to FILE, and leave out those of which it has one",
+    )
+    words.add_argument(
+        "--work-in",
+        metavar="FOLDER",
+        help="keep what checks have proved there, and use it, so that a run that is stopped goes on quickly",
+    )
     given = words.parse_args()
     if given.minutes:
         global deadline
@@ -777,7 +941,10 @@ def main():
         if os.path.isdir(f"{crate.folder}/wrong-bodies") and (not given.names or crate.name in given.names):
             bodies, controls = read_all(f"{crate.folder}/wrong-bodies", crate), controls_of(crate)
             if given.turn is not None:
-                bodies, controls = of_turn(crate, bodies, given.turn), controls[given.turn % max(len(controls), 1) :][:1]
+                bodies, controls = (
+                    of_turn(crate, bodies, given.turn),
+                    controls[given.turn % max(len(controls), 1) :][:1],
+                )
             work.append((crate, [it for it in bodies + controls if not given.only or it.name in given.only]))
     work.sort(key=lambda it: -it[0].count(rb"\n"))
     verdicts = Verdicts(given.verdicts) if given.verdicts else None
@@ -788,7 +955,12 @@ def main():
         found = try_now(work, given.show, given.jobs, verdicts, given.work_in)
     print(f"wrong bodies: {told(found)}")
     all_said = {it for said in found for it in said.values()}
-    return 1 if all_said & {PASSED, UNREAD, MISJUDGED, *[UNCLEAR] * given.strict} or not all_said & {"refused", BY_HAND, HELD} else 0
+    return (
+        1
+        if all_said & {PASSED, UNREAD, MISJUDGED, *[UNCLEAR] * given.strict}
+        or not all_said & {"refused", BY_HAND, HELD}
+        else 0
+    )
 
 
 if __name__ == "__main__":

@@ -17,7 +17,14 @@ from scripts.clients.transcripts import sent
 from scripts.models import plain_program
 from scripts.models.plain_script import Script
 
-SHOWN = ("README.md", "docs/GUIDE.md", "docs/COMMANDS.md", "docs/REPAIR.md", "docs/EXAMPLES.md", "docs/RULES.md")
+SHOWN = (
+    "README.md",
+    "docs/GUIDE.md",
+    "docs/COMMANDS.md",
+    "docs/REPAIR.md",
+    "docs/EXAMPLES.md",
+    "docs/RULES.md",
+)
 # the script that the gate runs too
 FIRST, FIRST_ANSWERS = "crates/event_reporter/stdin", "crates/event_reporter/stdout"
 FENCED = re.compile(r"(?<=^```\n)(.*?)(?=^```)", re.M | re.S)
@@ -98,7 +105,9 @@ class Answers:
 
     def fenced(self, path):
         """The lists in blocks in which nothing is typed are those of transcripts and typed lines."""
-        self.texts[path] = FENCED.sub(lambda block: self.replaced(path, block[1]), self.texts.get(path) or read(path))
+        self.texts[path] = FENCED.sub(
+            lambda block: self.replaced(path, block[1]), self.texts.get(path) or read(path)
+        )
 
     def replaced(self, path, block):
         for shown in sorted(self.lists, key=len, reverse=True):
@@ -127,8 +136,12 @@ def made():
 
 def main():
     as_it_is = argparse.RawDescriptionHelpFormatter
-    words = argparse.ArgumentParser(prog="scripts.models.answers", description=__doc__, epilog=EXAMPLES, formatter_class=as_it_is)
-    words.add_argument("--check", action="store_true", help="write nothing; the status is 1 if something would be written")
+    words = argparse.ArgumentParser(
+        prog="scripts.models.answers", description=__doc__, epilog=EXAMPLES, formatter_class=as_it_is
+    )
+    words.add_argument(
+        "--check", action="store_true", help="write nothing; the status is 1 if something would be written"
+    )
     is_check = words.parse_args().check
     answers = made()
     changed = [path for path, text in answers.texts.items() if text != read(path)]

@@ -70,7 +70,11 @@ def kind_of(data):
     if data.startswith(DATABASE):
         return "event"
     first = data.split(b"\n")[0].strip(b"\xef\xbb\xbf\r")
-    headings = {b"no,name,dropped": "players", b"round,table,a,b,x,y,d": "results", b"rank,no,points,omw,gwp,ogw,dropped,name": "standings"}
+    headings = {
+        b"no,name,dropped": "players",
+        b"round,table,a,b,x,y,d": "results",
+        b"rank,no,points,omw,gwp,ogw,dropped,name": "standings",
+    }
     if first in headings:
         return headings[first]
     if first.split() == [b"Rank", b"No", b"Pts", b"OMW", b"GWP", b"OGW", b"D", b"Name"]:
@@ -132,7 +136,9 @@ def draws_in(folder):
         elif name == "rule":
             rule = read(path).decode("ascii", "replace").rstrip("\n")
         elif name == "numbers":
-            for line in filter(None, map(KEPT.fullmatch, read(path).decode("ascii", "replace").split("\n")[:-1])):
+            for line in filter(
+                None, map(KEPT.fullmatch, read(path).decode("ascii", "replace").split("\n")[:-1])
+            ):
                 numbers.setdefault(int(line[1]), []).append(line[2])
     return texts, wrong, shut, numbers, rule
 
@@ -143,9 +149,18 @@ def read_kept(text, numbers, rule):
     kept = numbers.get(1 if made_by.startswith("once") else text.round, [])
     if text.is_drawn and text.number not in kept:
         yield WRONG, f"the number {text.number} was not kept before the key was made"
-    if text.is_drawn and RULE.fullmatch(rule) and rule != "off" and not plain_draw.is_by_rule(made_by, text.number):
+    if (
+        text.is_drawn
+        and RULE.fullmatch(rule)
+        and rule != "off"
+        and not plain_draw.is_by_rule(made_by, text.number)
+    ):
         yield WRONG, f"the number {text.number} is none by the rule of the evening, {made_by}"
-    passed_over = [it for it in kept[: kept.index(text.number)] if it not in text.mistyped] if text.number in kept else []
+    passed_over = (
+        [it for it in kept[: kept.index(text.number)] if it not in text.mistyped]
+        if text.number in kept
+        else []
+    )
     if passed_over:
         yield WRONG, f"an earlier number of the round is not told: {'; '.join(passed_over)}"
 
@@ -178,13 +193,17 @@ class Report:
 
     def end(self):
         """The last lines."""
-        what = ", ".join(f"{number} {one if number == 1 else many}" for (one, many), number in self.checked.items())
+        what = ", ".join(
+            f"{number} {one if number == 1 else many}" for (one, many), number in self.checked.items()
+        )
         found = [f"WRONG: {'; '.join(self.wrong_at)}. See there."] * bool(self.wrong_at)
         found += [f"Not shown to be right: {'; '.join(self.unsure_at)}. See there."] * bool(self.unsure_at)
         told = " ".join([f"Checked: {what or 'nothing'}.", *(found or ["Nothing is wrong."])])
         print(textwrap.fill(told, 79, break_long_words=False, break_on_hyphens=False))
         if self.asked:
-            print(f"{self.asked} question{'' if self.asked == 1 else 's'} to those who were there: is that so?")
+            print(
+                f"{self.asked} question{'' if self.asked == 1 else 's'} to those who were there: is that so?"
+            )
 
     def texts(self, texts, is_whole=False, shut=None, kept=None, rule=""):
         """Texts with the names of their files."""
@@ -211,7 +230,10 @@ def check_event(report, file, name=None):
     if os.path.isdir(f"{file}.draws"):
         texts = check_draws(report, f"{file}.draws")
     keys = keys_of(read(f"{file}.keys").decode("utf-8", "replace")) if os.path.exists(f"{file}.keys") else {}
-    results = [(int(row[0]), int(row[1]), int(row[2]), int(row[3]), tuple(map(int, row[4:])) if row[4] else None) for row in results_rows(event)[1:]]
+    results = [
+        (int(row[0]), int(row[1]), int(row[2]), int(row[3]), tuple(map(int, row[4:])) if row[4] else None)
+        for row in results_rows(event)[1:]
+    ]
     lines = verdicts(results, keys)
     report.count("round in the event", "rounds in the event", len(event.stored))
     for number, matches in enumerate(event.stored, 1):
@@ -310,7 +332,11 @@ def files_of(path):
     names = [f"{path}/{name}" for name in sorted(os.listdir(path))]
     if path.endswith(".draws"):
         return [path]
-    events = [it for it in names if os.path.isfile(it) and not it.endswith(("-wal", "-shm")) and read(it)[:16] == DATABASE]
+    events = [
+        it
+        for it in names
+        if os.path.isfile(it) and not it.endswith(("-wal", "-shm")) and read(it)[:16] == DATABASE
+    ]
     return events or [it for it in names if it.endswith(".draws")]
 
 
@@ -366,9 +392,13 @@ def run(given):
 
 
 def parser():
-    words = argparse.ArgumentParser(prog=COMMAND, description=HELP, epilog=EXAMPLES, formatter_class=argparse.RawDescriptionHelpFormatter)
+    words = argparse.ArgumentParser(
+        prog=COMMAND, description=HELP, epilog=EXAMPLES, formatter_class=argparse.RawDescriptionHelpFormatter
+    )
     words.add_argument("paths", nargs="+", metavar="PATH", help="an event, texts of rounds, or lists")
-    words.add_argument("--who", type=int, metavar="NUMBER", help="show how the tiebreakers of this player come about")
+    words.add_argument(
+        "--who", type=int, metavar="NUMBER", help="show how the tiebreakers of this player come about"
+    )
     return words
 
 

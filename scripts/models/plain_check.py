@@ -8,7 +8,10 @@ from scripts.models.chacha20 import words_of
 from scripts.models.plain_csv import Fault, number, records
 from scripts.models.plain_event import OutOfSteps, earliest
 
-AS_THE_RULES, OTHERWISE = "as the rules pair it by its key", "not as the rules pair it from the scores as they are now"
+AS_THE_RULES, OTHERWISE = (
+    "as the rules pair it by its key",
+    "not as the rules pair it from the scores as they are now",
+)
 CORRECTED = "Where a score of an earlier round was corrected since, this can't be told"
 
 
@@ -75,7 +78,10 @@ def verdicts(results, keys):
         if number > len(rounds):
             rounds.append([])
         rounds[-1].append((a, b, score))
-    return [f"round {number}: {verdict(rounds, number, keys.get(number, []))}" for number in range(1, len(rounds) + 1)]
+    return [
+        f"round {number}: {verdict(rounds, number, keys.get(number, []))}"
+        for number in range(1, len(rounds) + 1)
+    ]
 
 
 def results_of(data, players):
@@ -87,7 +93,12 @@ def results_of(data, players):
     for place, row in enumerate(rows, 1):
         numbers = [number(it) for it in row[:4]]
         score = None if row[4:] == [b"", b"", b""] else tuple(number(it) for it in row[4:])
-        if len(row) != 7 or None in numbers or (score and None in score) or not all(it <= players for it in numbers[2:]):
+        if (
+            len(row) != 7
+            or None in numbers
+            or (score and None in score)
+            or not all(it <= players for it in numbers[2:])
+        ):
             raise Fault(f"bad csv row {place}\n")
         found.append((*numbers, score))
     return found

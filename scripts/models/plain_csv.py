@@ -74,14 +74,24 @@ def imported(event, data):
 
 
 def players_rows(event):
-    return [["no", "name", "dropped"]] + [[str(it), event.names[it - 1], str(int(it in event.dropped))] for it in event.numbers()]
+    return [["no", "name", "dropped"]] + [
+        [str(it), event.names[it - 1], str(int(it in event.dropped))] for it in event.numbers()
+    ]
 
 
 def results_rows(event):
     rows = [["round", "table", "a", "b", "x", "y", "d"]]
     for number, matches in enumerate(event.stored, 1):
         for place, (a, b, score) in enumerate(matches, 1):
-            rows.append([str(number), str(place if b else 0), str(a), str(b), *(map(str, score) if score else ("", "", ""))])
+            rows.append(
+                [
+                    str(number),
+                    str(place if b else 0),
+                    str(a),
+                    str(b),
+                    *(map(str, score) if score else ("", "", "")),
+                ]
+            )
     return rows
 
 

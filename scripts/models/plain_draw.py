@@ -87,7 +87,10 @@ def event_of(players, results):
     event.names, event.dropped, event.phase = names, dropped, SWISS
     for row in rows:
         round_number, _, a, b, score = match_of(row, len(names))
-        need(round_number >= 1 and round_number in (len(event.stored), len(event.stored) + 1), "its rounds are not in their order")
+        need(
+            round_number >= 1 and round_number in (len(event.stored), len(event.stored) + 1),
+            "its rounds are not in their order",
+        )
         if round_number > len(event.stored):
             event.stored.append([])
         event.stored[-1].append([a, b, score])
@@ -111,7 +114,12 @@ def due(event, key):
 
 def tables_due(event, round_number, pairs):
     """The bytes of `drawn.csv` for these tables."""
-    drawn = [[str(round_number), str(place), str(a), str(b), "", "", ""] if b else [str(round_number), "0", str(a), "0", "2", "0", "0"] for place, (a, b) in enumerate(pairs, 1)]
+    drawn = [
+        [str(round_number), str(place), str(a), str(b), "", "", ""]
+        if b
+        else [str(round_number), "0", str(a), "0", "2", "0", "0"]
+        for place, (a, b) in enumerate(pairs, 1)
+    ]
     return written([HEADING, *drawn])
 
 
@@ -128,7 +136,10 @@ class Text:
         need(lines[:1] == [FIRST_LINE], "it does not begin as one")
         head = {}
         for name, line in itertools.zip_longest(HEAD, lines[1:9]):
-            need(line is not None and line.startswith(f"{name} ".encode()), f"it has no line `{name}` in its place")
+            need(
+                line is not None and line.startswith(f"{name} ".encode()),
+                f"it has no line `{name}` in its place",
+            )
             need(all(byte < 128 for byte in line), f"its line `{name}` is not in plain letters")
             head[name] = line.decode()[len(name) + 1 :]
         self.round, self.drawing = whole(head["round"], MOST_ROUNDS), whole(head["drawing"], MOST_DRAWINGS)
@@ -140,25 +151,40 @@ class Text:
         self.mistyped = [] if self.instead == "-" else self.instead.split("; ")
         need(all(map(is_number, self.mistyped)), "a number in its line `instead` is none")
         throwers = [] if self.by == "-" else [whole(word, 512) for word in self.by.split(" ")]
-        need(None not in throwers and throwers == sorted(set(throwers)), "its throwers are not in their order")
+        need(
+            None not in throwers and throwers == sorted(set(throwers)), "its throwers are not in their order"
+        )
         self.cut(lines[9:])
         need(all(it <= len(self.event.names) for it in throwers), "one who threw is no player")
 
     def cut(self, lines):
         """The lists below the head, each from its name to the next one."""
-        need(lines[:1] == [b"players.csv"] and lines[-1:] == [b"end"] and b"results.csv" in lines, "it has not its three lists")
+        need(
+            lines[:1] == [b"players.csv"] and lines[-1:] == [b"end"] and b"results.csv" in lines,
+            "it has not its three lists",
+        )
         one = lines.index(b"results.csv")
         need(b"drawn.csv" in lines[one:], "it has not its three lists")
         other = lines.index(b"drawn.csv", one)
         joined = lambda rows: b"".join(row + b"\n" for row in rows)
-        self.players, self.results, self.tables = joined(lines[1:one]), joined(lines[one + 1 : other]), joined(lines[other + 1 : -1])
+        self.players, self.results, self.tables = (
+            joined(lines[1:one]),
+            joined(lines[one + 1 : other]),
+            joined(lines[other + 1 : -1]),
+        )
         self.event = event_of(self.players, self.results)
         need(len(self.event.stored) == self.round - 1, "its results are not those of the rounds before")
-        need(all(score for matches in self.event.stored for _, _, score in matches), "a table of an earlier round has no score")
+        need(
+            all(score for matches in self.event.stored for _, _, score in matches),
+            "a table of an earlier round has no score",
+        )
         heading, *rows = records(self.tables) or [None]
         need(heading == [it.encode() for it in HEADING] and rows, "its tables are no list")
         self.seats = [[a, b] for _, _, a, b, _ in (match_of(row, len(self.event.names)) for row in rows)]
-        need(tables_due(self.event, self.round, self.seats) == self.tables, "its tables are not written as such")
+        need(
+            tables_due(self.event, self.round, self.seats) == self.tables,
+            "its tables are not written as such",
+        )
 
     @property
     def named(self):
@@ -172,15 +198,23 @@ class Text:
 def read_of(text):
     """What follows from a text alone."""
     is_marked = sha256(text.players + text.results) == text.mark
-    yield (RIGHT if is_marked else WRONG), f"its lists {'are' if is_marked else 'are not'} those of its mark, {text.mark[:16]}"
+    yield (
+        RIGHT if is_marked else WRONG
+    ), f"its lists {'are' if is_marked else 'are not'} those of its mark, {text.mark[:16]}"
     if text.is_drawn:
         is_key = key_of(text.round, text.number) == text.key
-        yield (RIGHT if is_key else WRONG), f"its key {'follows' if is_key else 'does not follow'} from round {text.round} and the number {text.number}"
+        yield (
+            RIGHT if is_key else WRONG
+        ), f"its key {'follows' if is_key else 'does not follow'} from round {text.round} and the number {text.number}"
     else:
-        yield TOLD, "KEY CHOSEN BY THE SCOREKEEPER: no number was drawn" + (f", in place of {text.instead}" if text.mistyped else "")
+        yield TOLD, "KEY CHOSEN BY THE SCOREKEEPER: no number was drawn" + (
+            f", in place of {text.instead}" if text.mistyped else ""
+        )
     pairs = due(text.event, bytes.fromhex(text.key))
     is_due = pairs == text.seats
-    yield (RIGHT if is_due else WRONG), f"its tables {'are' if is_due else 'are not'} those that the rules give to its lists by its key"
+    yield (
+        RIGHT if is_due else WRONG
+    ), f"its tables {'are' if is_due else 'are not'} those that the rules give to its lists by its key"
     if text.is_drawn:
         threw = "" if text.by == "-" else f" by {text.by}"
         yield ASK, f"{text.number} was thrown{threw}. Whoever was there knows"
@@ -263,7 +297,9 @@ def read_drawings(texts, shut):
             continue
         old, differs = event_of(*before), []
         differs = [*players_between(old, text.event), *scores_between(old, text.event)]
-        yield text, TOLD, f"since drawing {text.drawing - 1} " + ("; ".join(differs) if differs else "nothing has changed in its lists")
+        yield text, TOLD, f"since drawing {text.drawing - 1} " + (
+            "; ".join(differs) if differs else "nothing has changed in its lists"
+        )
 
 
 def read_numbers(texts):

@@ -71,7 +71,9 @@ class Event:
 
     def players(self):
         lines = ["  No D Name"]
-        return lines + [f"{it:4} {'D' if it in self.dropped else ' '} {self.names[it - 1]}" for it in self.numbers()]
+        return lines + [
+            f"{it:4} {'D' if it in self.dropped else ' '} {self.names[it - 1]}" for it in self.numbers()
+        ]
 
     def numbers(self):
         return range(1, len(self.names) + 1)
@@ -100,7 +102,12 @@ class Event:
     def totals(self, player):
         """What the player's complete rounds come to: points, rounds, game points and games."""
         scores = [score for _, score in self.played(player)]
-        return self.points(player), len(scores) + self.missed(player), sum(3 * x + d for x, _, d in scores), sum(map(sum, scores))
+        return (
+            self.points(player),
+            len(scores) + self.missed(player),
+            sum(3 * x + d for x, _, d in scores),
+            sum(map(sum, scores)),
+        )
 
     def match_wins(self, player):
         points, rounds, _, _ = self.totals(player)
@@ -112,13 +119,22 @@ class Event:
 
     def merit(self, player, match_wins, game_wins):
         opponents = [other for other, _ in self.played(player) if other]
-        return self.points(player), mean([match_wins[it] for it in opponents]), game_wins[player], mean([game_wins[it] for it in opponents])
+        return (
+            self.points(player),
+            mean([match_wins[it] for it in opponents]),
+            game_wins[player],
+            mean([game_wins[it] for it in opponents]),
+        )
 
     def merits(self):
         """What the players are ranked by, in the order of the standings."""
-        match_wins, game_wins = ({it: of(it) for it in self.numbers()} for of in (self.match_wins, self.game_wins))
+        match_wins, game_wins = (
+            {it: of(it) for it in self.numbers()} for of in (self.match_wins, self.game_wins)
+        )
         merits = {it: self.merit(it, match_wins, game_wins) for it in self.numbers()}
-        return {it: merits[it] for it in sorted(merits, key=lambda it: ([-value for value in merits[it]], it))}
+        return {
+            it: merits[it] for it in sorted(merits, key=lambda it: ([-value for value in merits[it]], it))
+        }
 
     def standings(self):
         merits = self.merits()
@@ -126,7 +142,9 @@ class Event:
         for it in merits:
             rank = 1 + sum(other > merits[it] for other in merits.values())
             shares = " ".join(f"{printed(share):>6}" for share in merits[it][1:])
-            lines.append(f"{rank:4} {it:4} {merits[it][0]:3} {shares} {'D' if it in self.dropped else ' '} {self.names[it - 1]}")
+            lines.append(
+                f"{rank:4} {it:4} {merits[it][0]:3} {shares} {'D' if it in self.dropped else ' '} {self.names[it - 1]}"
+            )
         return lines
 
     def slips(self, number):
@@ -142,7 +160,9 @@ class Event:
         lines = [" Stg Slot    A    B Score Names"]
         for stage, matches in enumerate(self.stages, 1):
             for slot, (a, b, score) in enumerate(matches, 1):
-                lines.append(f"{stage:4} {slot:4} {a:4} {b:4} {shown(score)} {self.names[a - 1]} - {self.names[b - 1]}")
+                lines.append(
+                    f"{stage:4} {slot:4} {a:4} {b:4} {shown(score)} {self.names[a - 1]} - {self.names[b - 1]}"
+                )
         if self.phase == FINISHED:
             champion = winner(self.stages[-1][0])
             lines.append(f"Champion {champion} {self.names[champion - 1]}")

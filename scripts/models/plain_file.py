@@ -167,9 +167,22 @@ def check_pairings(event, rows):
     need("pairing", len({it[2:4] for it in rows}) == len(rows), "two meet twice, or one has two byes")
     event.stored = [round_of(event, it) for it in rounds]
     need("pairing", all(is_complete(it) for it in event.stored[:-1]), "an open round before the newest")
-    need("pairing", all(it <= len(event.stored) for it in event.late.values()), "one has missed a round that isn't stored")
-    sitting = [(number, it) for number, matches in enumerate(event.stored, 1) for match in matches for it in match[:2]]
-    need("pairing", all(event.joined(it) < number for number, it in sitting), "one sits in a round that they missed")
+    need(
+        "pairing",
+        all(it <= len(event.stored) for it in event.late.values()),
+        "one has missed a round that isn't stored",
+    )
+    sitting = [
+        (number, it)
+        for number, matches in enumerate(event.stored, 1)
+        for match in matches
+        for it in match[:2]
+    ]
+    need(
+        "pairing",
+        all(event.joined(it) < number for number, it in sitting),
+        "one sits in a round that they missed",
+    )
     need("pairing", event.phase != ENROLLING or not rows, "a round before the start")
     is_over = len(event.stored) == event.rounds and all(map(is_complete, event.stored))
     need("pairing", event.phase not in (PLAYOFF, FINISHED) or is_over, "a playoff before the rounds are done")
@@ -179,7 +192,9 @@ def stage_of(event, rows):
     """The matches of a stage by slot."""
     need("bracket", [it[1] for it in rows] == list(range(1, len(rows) + 1)), "slots")
     matches = [[a, b, score_of("bracket", done, tuple(score))] for _, _, a, b, done, *score in rows]
-    need("bracket", all(a in event.numbers() and b in event.numbers() for a, b, _ in matches), "no such player")
+    need(
+        "bracket", all(a in event.numbers() and b in event.numbers() for a, b, _ in matches), "no such player"
+    )
     need("bracket", all(score is None or of_playoff(score) for _, _, score in matches), "score")
     return matches
 

@@ -14,12 +14,30 @@ LAST_SERIAL = 999_999
 END = rb"\r?\n"
 TOKEN = rb"[!#$%&'*+\-.^_`|~0-9A-Za-z]+"
 FIELD = rb"(" + TOKEN + rb"):([\t\x20-\x7e\x80-\xff]*)" + END
-HEAD = re.compile(rb"(?:" + END + rb")*(" + TOKEN + rb") ([\x21-\x7e\x80-\xff]+) HTTP/1\.[01]" + END + rb"((?:" + FIELD + rb")*)" + END)
+HEAD = re.compile(
+    rb"(?:"
+    + END
+    + rb")*("
+    + TOKEN
+    + rb") ([\x21-\x7e\x80-\xff]+) HTTP/1\.[01]"
+    + END
+    + rb"((?:"
+    + FIELD
+    + rb")*)"
+    + END
+)
 
 ROUND = re.compile(rb"/rounds/([0-9]{1,3})")
 TABLE = re.compile(rb"/rounds/([0-9]{1,3})/tables/([0-9]{1,3})")
 
-REASONS = {200: "OK", 400: "Bad Request", 404: "Not Found", 405: "Method Not Allowed", 409: "Conflict", 413: "Content Too Large"}
+REASONS = {
+    200: "OK",
+    400: "Bad Request",
+    404: "Not Found",
+    405: "Method Not Allowed",
+    409: "Conflict",
+    413: "Content Too Large",
+}
 REASONS[503] = "Service Unavailable"
 STATUSES = {12: 404, 24: 503, 25: 503, 26: 503}
 TEXT, JSON = "text/plain; charset=utf-8", "application/json"
@@ -77,7 +95,11 @@ def check_method(method, route):
 
 def length_of(fields):
     lengths = [value for name, value in fields if name == b"content-length"]
-    if len(lengths) != 1 or not re.fullmatch(rb"[0-9]+", lengths[0]) or b"transfer-encoding" in [name for name, _ in fields]:
+    if (
+        len(lengths) != 1
+        or not re.fullmatch(rb"[0-9]+", lengths[0])
+        or b"transfer-encoding" in [name for name, _ in fields]
+    ):
         raise bad()
     length = int(lengths[0].lstrip(b"0")[:5] or b"0")
     if length > MAX_BODY:
@@ -155,7 +177,9 @@ def match_of(event, number, table):
     """The match of a round at a table, which is 0 for the bye; or None."""
     if not 1 <= number <= len(event.stored):
         return None
-    return next((it for place, it in enumerate(event.stored[number - 1], 1) if table == (place if it[1] else 0)), None)
+    return next(
+        (it for place, it in enumerate(event.stored[number - 1], 1) if table == (place if it[1] else 0)), None
+    )
 
 
 def side(event, number):

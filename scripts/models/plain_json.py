@@ -18,6 +18,7 @@ class NoJson(ValueError):
 
 def string_of(text):
     """The string that stands between quotes so."""
+
     def plain(found):
         return chr(int(found[1], 16)) if found[1] else ESCAPES.get(found[2], found[2])
 

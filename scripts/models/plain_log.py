@@ -43,7 +43,11 @@ def with_sums(data):
 
 def has_head(data):
     """Whether the log begins with a head that is right."""
-    return data[:4] in MAGIC and len(data) >= HEAD and struct.pack(">2I", *added(order_of(data), data[:24], 0, 0)) == data[24:HEAD]
+    return (
+        data[:4] in MAGIC
+        and len(data) >= HEAD
+        and struct.pack(">2I", *added(order_of(data), data[:24], 0, 0)) == data[24:HEAD]
+    )
 
 
 def committed(data):
@@ -56,7 +60,11 @@ def committed(data):
     for at in starts(data):
         frame = data[at : at + FRAME + PAGE]
         sums = sums_of_frame(order, frame, *sums)
-        if frame[8:16] != data[16:24] or frame[16:FRAME] != struct.pack(">2I", *sums) or frame[:4] == bytes(4):
+        if (
+            frame[8:16] != data[16:24]
+            or frame[16:FRAME] != struct.pack(">2I", *sums)
+            or frame[:4] == bytes(4)
+        ):
             break
         if frame[4:8] != bytes(4):
             end = at + FRAME + PAGE

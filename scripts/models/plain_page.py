@@ -103,7 +103,15 @@ def shown_standings(part):
         cells = row.of("td")
         name = cells[2].of("bdi")[0].text()
         has_dropped = cells[2].text() == f"{name} dropped"
-        found.append((cells[0].text(), cells[1].text(), name, "D" if has_dropped else "", *(it.text() for it in cells[3:])))
+        found.append(
+            (
+                cells[0].text(),
+                cells[1].text(),
+                name,
+                "D" if has_dropped else "",
+                *(it.text() for it in cells[3:]),
+            )
+        )
         bars.append(tuple(bar.attributes["width"] for it in cells[5:] for bar in it.of("rect", "filled")))
     return found, bars
 
@@ -118,14 +126,24 @@ def shown_slips(part):
     for it in part.of("article", "slip"):
         players = [(line.one("span", "no"), line.one("span", "name")) for line in it.of("div", "who")]
         boxes = [len(it.of("span", kind)) for kind in ("box", "won", "drawn", "drop", "signature")]
-        found.append((it.one("span", "event"), it.one("span", "round"), it.one("span", "table"), *players, boxes))
+        found.append(
+            (it.one("span", "event"), it.one("span", "round"), it.one("span", "table"), *players, boxes)
+        )
     return found
 
 
 def shown_bracket(part):
     """The headings of the stages, the players in their boxes and who of them is through, and how many boxes there are."""
-    seats = [(it.one("span", "name"), it.one("span", "games"), "through" in it.kinds()) for it in part.of("div", "seat")]
-    return [it.text() for it in part.of("text", "stage")], seats, len(part.of("rect", "match")), [it.text() for it in part.of("text", "even")]
+    seats = [
+        (it.one("span", "name"), it.one("span", "games"), "through" in it.kinds())
+        for it in part.of("div", "seat")
+    ]
+    return (
+        [it.text() for it in part.of("text", "stage")],
+        seats,
+        len(part.of("rect", "match")),
+        [it.text() for it in part.of("text", "even")],
+    )
 
 
 # ---- what it has to show
@@ -135,7 +153,10 @@ def record_due(event, player, number=None):
     """Matches won, lost and drawn in the complete rounds, or in those before a round. A round that was missed is lost."""
     before = copy.copy(event)
     before.stored = event.stored if number is None else event.stored[: number - 1]
-    found = [sum(is_so(x, y) for _, (x, y, _) in before.played(player)) for is_so in (operator.gt, operator.lt, operator.eq)]
+    found = [
+        sum(is_so(x, y) for _, (x, y, _) in before.played(player))
+        for is_so in (operator.gt, operator.lt, operator.eq)
+    ]
     return f"{found[0]}-{found[1] + before.missed(player)}-{found[2]}"
 
 
@@ -155,7 +176,11 @@ def table_rows(event, number):
 def with_record(event, player, number, name=None):
     """A name in the pairings of a round."""
     name = event.names[player - 1] if name is None else name
-    return f"{name} {record_due(event, player, number)}" if any(map(is_complete, event.stored[: number - 1])) else name
+    return (
+        f"{name} {record_due(event, player, number)}"
+        if any(map(is_complete, event.stored[: number - 1]))
+        else name
+    )
 
 
 # what Unicode calls letters that are no letter with a mark, and how they are typed
@@ -177,7 +202,9 @@ CALLED = {
     "GAMMA": "g",
     "U BAR": "u",
 }
-UNTYPED = re.compile("APOSTROPHE|SINGLE (HIGH-REVERSED-9 )?(LEFT |RIGHT )?QUOTATION MARK|PRIME|(GRAVE|ACUTE) ACCENT|TURNED COMMA|REVERSED COMMA|HALF RING|MIDDLE DOT")
+UNTYPED = re.compile(
+    "APOSTROPHE|SINGLE (HIGH-REVERSED-9 )?(LEFT |RIGHT )?QUOTATION MARK|PRIME|(GRAVE|ACUTE) ACCENT|TURNED COMMA|REVERSED COMMA|HALF RING|MIDDLE DOT"
+)
 
 
 def folded_letter(letter):
@@ -214,7 +241,14 @@ def parted(name, last=""):
     if last and whole.startswith(last + " "):
         return last, whole[len(last) :].lstrip() + beside
     halves = whole.split(",")
-    if len(halves) == 2 and halves[0].strip() and halves[0] == halves[0].rstrip() and halves[1].strip() and halves[1] != halves[1].lstrip() and halves[1] == halves[1].rstrip():
+    if (
+        len(halves) == 2
+        and halves[0].strip()
+        and halves[0] == halves[0].rstrip()
+        and halves[1].strip()
+        and halves[1] != halves[1].lstrip()
+        and halves[1] == halves[1].rstrip()
+    ):
         return halves[0], halves[1].strip() + beside
     words = whole.split()
     if len(words) > 1 and whole.endswith(words[-1]) and any(letter.isalpha() for letter in words[-1]):
@@ -235,7 +269,9 @@ def in_order(names, by_first=False):
 
 
 def player_rows(event, by_first=False):
-    return [(letter, name, str(number)) for letter, name, number in in_order(enumerate(event.names, 1), by_first)]
+    return [
+        (letter, name, str(number)) for letter, name, number in in_order(enumerate(event.names, 1), by_first)
+    ]
 
 
 def name_rows(event, number, by_first=False):
@@ -246,7 +282,10 @@ def name_rows(event, number, by_first=False):
             if one:
                 seats[one] = str(place) if b else "bye", with_record(event, other, number) if other else ""
     names = [(it, event.names[it - 1]) for it in seats]
-    return [(letter, with_record(event, it, number, name), str(it), *seats[it]) for letter, name, it in in_order(names, by_first)]
+    return [
+        (letter, with_record(event, it, number, name), str(it), *seats[it])
+        for letter, name, it in in_order(names, by_first)
+    ]
 
 
 def in_stack(slips, a_sheet=5):
@@ -258,12 +297,24 @@ def in_stack(slips, a_sheet=5):
 
 def slips_due(event, number, title):
     """A slip for each match that has no score: games won twice, drawn once, two drops, two signatures."""
-    matches = [(f"Round {number}", f"Table {place}", match) for place, match in enumerate(event.stored[number - 1] if number else [], 1)]
+    matches = [
+        (f"Round {number}", f"Table {place}", match)
+        for place, match in enumerate(event.stored[number - 1] if number else [], 1)
+    ]
     for stage, slots in enumerate(event.stages, 1):
         name = ("Final", "Semifinal", "Quarterfinal")[len(event.stages[0]).bit_length() - stage]
-        matches += [("Playoff", name if name == "Final" else f"{name} {slot}", match) for slot, match in enumerate(slots, 1)]
+        matches += [
+            ("Playoff", name if name == "Final" else f"{name} {slot}", match)
+            for slot, match in enumerate(slots, 1)
+        ]
     players = lambda it: [(str(number), event.names[number - 1]) for number in it[:2]]
-    return in_stack([(title, where, table, *players(match), [5, 3, 1, 2, 2]) for where, table, match in matches if not match[2]])
+    return in_stack(
+        [
+            (title, where, table, *players(match), [5, 3, 1, 2, 2])
+            for where, table, match in matches
+            if not match[2]
+        ]
+    )
 
 
 def seat_rows(event):
@@ -275,15 +326,31 @@ def standings_due(event):
     """The plain reading's text by its columns."""
     lines = event.standings()[1:]
     return [
-        (it[:4].strip(), it[5:9].strip(), it[37:], it[35].strip(), it[10:13].strip(), it[14:20].strip(), it[21:27].strip(), it[28:34].strip())
+        (
+            it[:4].strip(),
+            it[5:9].strip(),
+            it[37:],
+            it[35].strip(),
+            it[10:13].strip(),
+            it[14:20].strip(),
+            it[21:27].strip(),
+            it[28:34].strip(),
+        )
         for it in lines
     ]
 
 
 def ranks_due(event):
     """The same with the record before the points, of each player who has sat at a table, once a round is complete."""
-    sat = {player for matches in event.stored for match in matches for player in match[:2]} if rounds_counted(event) else set()
-    return [(*row[:4], record_due(event, int(row[1])) if int(row[1]) in sat else "", *row[4:]) for row in standings_due(event)]
+    sat = (
+        {player for matches in event.stored for match in matches for player in match[:2]}
+        if rounds_counted(event)
+        else set()
+    )
+    return [
+        (*row[:4], record_due(event, int(row[1])) if int(row[1]) in sat else "", *row[4:])
+        for row in standings_due(event)
+    ]
 
 
 def last_in_due(event):
@@ -309,17 +376,28 @@ def foot_due(event):
     """What stands beneath a board in the rounds: how many tables have finished, which still play, and what comes next."""
     if not event.stored or event.stages:
         return []
-    number, tables = len(event.stored), [(place, score) for place, (_, second, score) in enumerate(event.stored[-1], 1) if second]
+    number, tables = len(event.stored), [
+        (place, score) for place, (_, second, score) in enumerate(event.stored[-1], 1) if second
+    ]
     still = [place for place, score in tables if not score]
     done = len(tables) - len(still)
-    playing = f"Tables finished: {done} of {len(tables)}. Still playing: {spans(still)}" if still else "All scores are in."
+    playing = (
+        f"Tables finished: {done} of {len(tables)}. Still playing: {spans(still)}"
+        if still
+        else "All scores are in."
+    )
     last = f"Next: the playoff of the first {event.cut}" if event.cut else "This is the last round."
     playing = playing if len(still) <= 30 else playing[: playing.index(" Still")]
     return [playing, f"Next: round {number + 1} of {event.rounds}" if number < event.rounds else last]
 
 
 def shown_foot(root):
-    return [it.text() for foot in root.of("footer", "foot") for kind in ("playing", "next") for it in foot.of("p", kind)]
+    return [
+        it.text()
+        for foot in root.of("footer", "foot")
+        for kind in ("playing", "next")
+        for it in foot.of("p", kind)
+    ]
 
 
 def bracket_due(event):
@@ -331,7 +409,10 @@ def bracket_due(event):
         for match in matches:
             a, b, score = match
             games = score or ("", "", 0)
-            seats += [(event.names[one - 1], str(count), bool(score) and one == winner(match)) for one, count in zip((a, b), games)]
+            seats += [
+                (event.names[one - 1], str(count), bool(score) and one == winner(match))
+                for one, count in zip((a, b), games)
+            ]
             even += [f"{games[2]} drawn"] if games[2] else []
     if len(event.stages) < len(sizes):
         # who has won stands in the next stage at once
@@ -348,7 +429,10 @@ def bracket_due(event):
 
 def final_due(event):
     """The last standing first. Who went out in one stage shares a rank; of the others, those share one whom the standings rank so."""
-    beaten = [[a if winner(match) == b else b for match in matches for a, b in [match[:2]]] for matches in event.stages]
+    beaten = [
+        [a if winner(match) == b else b for match in matches for a, b in [match[:2]]]
+        for matches in event.stages
+    ]
     merits = event.merits()
     tied = {}
     for it in merits:
@@ -364,7 +448,10 @@ def final_due(event):
 def final_rows(event):
     """The same with the record and the points of the rounds."""
     sat = {player for matches in event.stored for match in matches for player in match[:2]}
-    return [(*row, record_due(event, int(row[1])) if int(row[1]) in sat else "", str(event.points(int(row[1])))) for row in final_due(event)]
+    return [
+        (*row, record_due(event, int(row[1])) if int(row[1]) in sat else "", str(event.points(int(row[1]))))
+        for row in final_due(event)
+    ]
 
 
 def champion_due(event):

@@ -11,13 +11,39 @@ FEWEST_LONG, FEWEST_ROUNDS_LONG = 24, 8
 
 def random_score(dice):
     if dice.random() < 0.8:
-        return dice.choice([(2, 0, 0), (2, 1, 0), (1, 2, 0), (0, 2, 0), (1, 1, 1), (1, 1, 0), (0, 0, 0), (0, 0, 3), (1, 0, 0), (2, 0, 3), (0, 1, 2)])
+        return dice.choice(
+            [
+                (2, 0, 0),
+                (2, 1, 0),
+                (1, 2, 0),
+                (0, 2, 0),
+                (1, 1, 1),
+                (1, 1, 0),
+                (0, 0, 0),
+                (0, 0, 3),
+                (1, 0, 0),
+                (2, 0, 3),
+                (0, 1, 2),
+            ]
+        )
     return dice.randrange(4), dice.randrange(4), dice.randrange(5)
 
 
 def random_playoff_score(dice):
     if dice.random() < 0.7:
-        return dice.choice([(2, 0, 0), (2, 1, 0), (1, 2, 0), (0, 2, 0), (1, 0, 3), (0, 1, 0), (3, 2, 0), (2, 3, 1), (3, 0, 3)])
+        return dice.choice(
+            [
+                (2, 0, 0),
+                (2, 1, 0),
+                (1, 2, 0),
+                (0, 2, 0),
+                (1, 0, 3),
+                (0, 1, 0),
+                (3, 2, 0),
+                (2, 3, 1),
+                (3, 0, 3),
+            ]
+        )
     return dice.randrange(5), dice.randrange(5), dice.randrange(5)
 
 
@@ -56,12 +82,19 @@ class Play:
 
     def report(self, is_new, number, table, score):
         verb = "result" if is_new else "correct"
-        self.send(f"{verb}\t{number}\t{table}\t{score[0]}\t{score[1]}\t{score[2]}", self.event.report(number, table, score, is_new))
+        self.send(
+            f"{verb}\t{number}\t{table}\t{score[0]}\t{score[1]}\t{score[2]}",
+            self.event.report(number, table, score, is_new),
+        )
 
     def drop(self):
         """Anybody, or nobody, or in some cases one of those who came late."""
         is_late = self.event.late and self.dice.random() < 0.3
-        player = self.dice.choice([*self.event.late]) if is_late else self.dice.randint(0, len(self.event.names) + 1)
+        player = (
+            self.dice.choice([*self.event.late])
+            if is_late
+            else self.dice.randint(0, len(self.event.names) + 1)
+        )
         self.send(f"drop\t{player}", self.event.drop(player))
 
     def cut(self):
@@ -71,11 +104,19 @@ class Play:
     def playoff(self):
         """A score of a match that is open, or of any, or of none."""
         stages, dice = self.event.stages, self.dice
-        is_open = [(stage, slot) for stage, matches in enumerate(stages, 1) for slot, match in enumerate(matches, 1) if not match[2]]
+        is_open = [
+            (stage, slot)
+            for stage, matches in enumerate(stages, 1)
+            for slot, match in enumerate(matches, 1)
+            if not match[2]
+        ]
         any_at = dice.randint(0, len(stages) + 1), dice.randint(0, self.event.cut // 2 + 1)
         stage, slot = dice.choice(is_open) if is_open and dice.random() < 0.7 else any_at
         score = random_playoff_score(dice)
-        self.send(f"playoff\t{stage}\t{slot}\t{score[0]}\t{score[1]}\t{score[2]}", self.event.play(stage, slot, score))
+        self.send(
+            f"playoff\t{stage}\t{slot}\t{score[0]}\t{score[1]}\t{score[2]}",
+            self.event.play(stage, slot, score),
+        )
         self.send("bracket", self.event.bracket())
 
     def late(self):
@@ -97,7 +138,14 @@ class Play:
 
 def this_and_that(sends, dice, version):
     """A small event, to which one thing after another is done, in order or not."""
-    play = Play(sends, dice, dice.randint(2, 11), dice.randint(1, MOST_ROUNDS[version]), dice.choice((0, 0, 2, 4, 8)), version)
+    play = Play(
+        sends,
+        dice,
+        dice.randint(2, 11),
+        dice.randint(1, MOST_ROUNDS[version]),
+        dice.choice((0, 0, 2, 4, 8)),
+        version,
+    )
     for _ in range(dice.randint(1, 60)):
         what, number, is_open = dice.random(), len(play.event.stored), play.event.is_open()
         if play.event.phase != SWISS and what < 0.8:
@@ -167,7 +215,9 @@ def random_event(sends, dice, number, most=64, version=2):
     if number % 2 == 0:
         return this_and_that(sends, dice, version).event
     if number % 10 == 7 and most >= FEWEST_LONG:
-        players, rounds = dice.randint(FEWEST_LONG, 2 * most), dice.randint(FEWEST_ROUNDS_LONG, MOST_ROUNDS[version])
+        players, rounds = dice.randint(FEWEST_LONG, 2 * most), dice.randint(
+            FEWEST_ROUNDS_LONG, MOST_ROUNDS[version]
+        )
     else:
         players, rounds = dice.randint(8, most), dice.randint(1, 5)
     return to_the_champion(sends, dice, version, players, rounds).event

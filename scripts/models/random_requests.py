@@ -23,33 +23,106 @@ TARGETS = (
 NAMES = b"Host User-Agent Accept X-A x_b Cookie Connection Expect Content-Type A !#$%&'*+-.^_`|~ 0".split()
 NAMES += b"Content-Lengths Content_Length Content-Lengt Transfer-Encodings".split()
 VALUES = [
-    b"", b"a", b"127.0.0.1:8080", b"curl/8.5.0", b"*/*", b"100-continue", b"close", b"a, b", b"a\tb", b"\xc3\xa9", b"\xff\x80", b'"quoted"',
-    b"a:b", b"HTTP/1.1", b"5",
+    b"",
+    b"a",
+    b"127.0.0.1:8080",
+    b"curl/8.5.0",
+    b"*/*",
+    b"100-continue",
+    b"close",
+    b"a, b",
+    b"a\tb",
+    b"\xc3\xa9",
+    b"\xff\x80",
+    b'"quoted"',
+    b"a:b",
+    b"HTTP/1.1",
+    b"5",
 ]
 ODD_LINES = [
-    b"Host", b": a", b" Host: a", b"\tHost: a", b"Host : a", b"Ho st: a", b"Host\t: a", b"H\xc3\xb6st: a", b"Host: a\0b", b"Host: a\x01",
-    b"Host: \x7f", b"Host: a\rb", b"Host: a\r\n b", b"(Host): a", b"Host@: a", b"\0: a",
+    b"Host",
+    b": a",
+    b" Host: a",
+    b"\tHost: a",
+    b"Host : a",
+    b"Ho st: a",
+    b"Host\t: a",
+    b"H\xc3\xb6st: a",
+    b"Host: a\0b",
+    b"Host: a\x01",
+    b"Host: \x7f",
+    b"Host: a\rb",
+    b"Host: a\r\n b",
+    b"(Host): a",
+    b"Host@: a",
+    b"\0: a",
 ]
 LENGTHS = b"+%d -%d %d, %d,%d %d.0 0x%d %da a%d 0 4096 4097 65536 4294967296 18446744073709551615 18446744073709551616".split()
-LENGTHS += [b"340282366920938463463374607431768211456", b"9" * 40, b"0" * 40 + b"%d", b"000000000000004097", b"", b"%d %d", b"\xd9\xa1", b"%d\x01"]
+LENGTHS += [
+    b"340282366920938463463374607431768211456",
+    b"9" * 40,
+    b"0" * 40 + b"%d",
+    b"000000000000004097",
+    b"",
+    b"%d %d",
+    b"\xd9\xa1",
+    b"%d\x01",
+]
 CODINGS = [b"chunked", b"identity", b"", b"gzip, chunked"]
 SPACES = [b" ", b"\t", b"\n", b"\r", b"\r\n", b"  "]
 ODD_VALUES = (
-    b'0 1 2 3 4 9 10 255 256 257 65535 65536 4294967298 18446744073709551615 18446744073709551616 99999999999999999999999999 -0 -1 -2 2.0'
+    b"0 1 2 3 4 9 10 255 256 257 65535 65536 4294967298 18446744073709551615 18446744073709551616 99999999999999999999999999 -0 -1 -2 2.0"
     b' 2. .5 1e0 1E0 2e0 20e-1 0.0 1e400 -1e400 1e-400 00 01 +1 0x1 null true false "1" "" [] [1] {} {"a":1} NaN Infinity -Infinity nul tru'
     b' 1_000 \xd9\xa1 - e1 1e 1e+ \'1\' 0e0 0e999999 9223372036854775808 -9223372036854775808 "\\ud83d\\ude00" "\\ud83d" "\\ude00" "\\x"'
     b' "\\u00g0" "\xff" "\x01"'
 ).split()
 ODD_BODIES = [
-    b"", b" ", b"{}", b"[]", b"null", b"2", b'"a"', b"[2,1,0]", b'[{"a":2,"b":1,"d":0}]', b'{"a":2}', b'{"a":2,"b":1}',
-    b'{"a":2,"b":1,"d":0', b'{"a":2,"b":1,"d":0}}', b'{"a":2,"b":1,"d":0} {}', b'{"a":2,"b":1,"d":0},', b'{"a":2,"b":1,"d":0,}',
-    b'{,"a":2,"b":1,"d":0}', b'{"a":2 "b":1,"d":0}', b'{"a":2,,"b":1,"d":0}', b'{"a" 2,"b":1,"d":0}', b'{"a"::2,"b":1,"d":0}',
-    b'{a:2,b:1,d:0}', b"{'a':2,'b':1,'d':0}", b'{"A":2,"b":1,"d":0}', b'{"a":2,"b":1,"c":0}', b'{"a":2,"b":1,"d":0,"e":0}',
-    b'{"a":2,"b":1,"d":0,"":0}', b'{"a":2,"b":1,"d ":0}', b'{"x":2,"y":1,"d":0}', b'{"score":{"a":2,"b":1,"d":0}}',
-    b'\xef\xbb\xbf{"a":2,"b":1,"d":0}', b'{"a":2,"b":1,"d":0}\xef\xbb\xbf', b'{"a":2,"b":1,"d":0}\0', b'\x0b{"a":2,"b":1,"d":0}',
-    b'\xc2\xa0{"a":2,"b":1,"d":0}', b'{"a":2,"b":1,"d":0}//', b'/**/{"a":2,"b":1,"d":0}', b'{"\\u0061":2,"\\u0062":1,"\\u0064":0}',
-    b'{"\\u0061":2,"a":0,"b":1,"d":0}', b'{"a\\u0000":2,"b":1,"d":0}', b'{"\\a":2,"b":1,"d":0}', b'{"\xff":2,"b":1,"d":0}', b'a=2&b=1&d=0',
-    b'{"a":2,"b":1,"d":0}\r\n\r\n', b'13\r\n{"a":2,"b":1,"d":0}\r\n0\r\n\r\n', '{"a":2,"b":1,"d":0}'.encode("utf-16"),
+    b"",
+    b" ",
+    b"{}",
+    b"[]",
+    b"null",
+    b"2",
+    b'"a"',
+    b"[2,1,0]",
+    b'[{"a":2,"b":1,"d":0}]',
+    b'{"a":2}',
+    b'{"a":2,"b":1}',
+    b'{"a":2,"b":1,"d":0',
+    b'{"a":2,"b":1,"d":0}}',
+    b'{"a":2,"b":1,"d":0} {}',
+    b'{"a":2,"b":1,"d":0},',
+    b'{"a":2,"b":1,"d":0,}',
+    b'{,"a":2,"b":1,"d":0}',
+    b'{"a":2 "b":1,"d":0}',
+    b'{"a":2,,"b":1,"d":0}',
+    b'{"a" 2,"b":1,"d":0}',
+    b'{"a"::2,"b":1,"d":0}',
+    b"{a:2,b:1,d:0}",
+    b"{'a':2,'b':1,'d':0}",
+    b'{"A":2,"b":1,"d":0}',
+    b'{"a":2,"b":1,"c":0}',
+    b'{"a":2,"b":1,"d":0,"e":0}',
+    b'{"a":2,"b":1,"d":0,"":0}',
+    b'{"a":2,"b":1,"d ":0}',
+    b'{"x":2,"y":1,"d":0}',
+    b'{"score":{"a":2,"b":1,"d":0}}',
+    b'\xef\xbb\xbf{"a":2,"b":1,"d":0}',
+    b'{"a":2,"b":1,"d":0}\xef\xbb\xbf',
+    b'{"a":2,"b":1,"d":0}\0',
+    b'\x0b{"a":2,"b":1,"d":0}',
+    b'\xc2\xa0{"a":2,"b":1,"d":0}',
+    b'{"a":2,"b":1,"d":0}//',
+    b'/**/{"a":2,"b":1,"d":0}',
+    b'{"\\u0061":2,"\\u0062":1,"\\u0064":0}',
+    b'{"\\u0061":2,"a":0,"b":1,"d":0}',
+    b'{"a\\u0000":2,"b":1,"d":0}',
+    b'{"\\a":2,"b":1,"d":0}',
+    b'{"\xff":2,"b":1,"d":0}',
+    b"a=2&b=1&d=0",
+    b'{"a":2,"b":1,"d":0}\r\n\r\n',
+    b'13\r\n{"a":2,"b":1,"d":0}\r\n0\r\n\r\n',
+    '{"a":2,"b":1,"d":0}'.encode("utf-16"),
     '{"a":2,"b":1,"d":0}'.encode("utf-16-le"),
 ]
 HEAD_SIZES = (8191, 8192, 8193)
@@ -70,7 +143,11 @@ def deep(dice):
 
 def slip(dice, score):
     """The body that hands in a score, well-formed, with its keys in any order."""
-    members = [[b'"a"', b":", b"%d" % score[0]], [b'"b"', b":", b"%d" % score[1]], [b'"d"', b":", b"%d" % score[2]]]
+    members = [
+        [b'"a"', b":", b"%d" % score[0]],
+        [b'"b"', b":", b"%d" % score[1]],
+        [b'"d"', b":", b"%d" % score[2]],
+    ]
     if dice.random() < 0.3:
         dice.shuffle(members)
     if dice.random() < 0.08:
@@ -78,7 +155,10 @@ def slip(dice, score):
     if dice.random() < 0.06:
         # a key that comes twice: the last value counts, whatever the first one is
         twice = dice.choice(members)
-        members.insert(dice.randrange(members.index(twice) + 1), [twice[0], b":", deep(dice) if dice.random() < 0.3 else dice.choice(ODD_VALUES)])
+        members.insert(
+            dice.randrange(members.index(twice) + 1),
+            [twice[0], b":", deep(dice) if dice.random() < 0.3 else dice.choice(ODD_VALUES)],
+        )
     if dice.random() < 0.03:
         members.append([b'"e"', b":", dice.choice((b"0", b"null", deep(dice)))])
     parts = [b"{"]
@@ -88,8 +168,14 @@ def slip(dice, score):
 
 
 def matches_of(event, is_open):
-    placed = [(number, place, match) for number, matches in enumerate(event.stored, 1) for place, match in enumerate(matches, 1)]
-    return [(number, place if match[1] else 0) for number, place, match in placed if not is_open or not match[2]]
+    placed = [
+        (number, place, match)
+        for number, matches in enumerate(event.stored, 1)
+        for place, match in enumerate(matches, 1)
+    ]
+    return [
+        (number, place if match[1] else 0) for number, place, match in placed if not is_open or not match[2]
+    ]
 
 
 def a_match(dice, event):
@@ -110,19 +196,32 @@ def target(dice, event, method):
         path = b"/rounds/%d" % dice.randint(0, len(event.stored) + 1)
     else:
         path = b"/standings"
-    return path + (dice.choice((b"?", b"?a=1", b"?/", b"?%00", b"?" + b"a" * 100)) if dice.random() < 0.1 else b"")
+    return path + (
+        dice.choice((b"?", b"?a=1", b"?/", b"?%00", b"?" + b"a" * 100)) if dice.random() < 0.1 else b""
+    )
 
 
 def in_any_case(dice, name):
-    return bytes(dice.choice((it, it ^ 32)) if chr(it).isalpha() else it for it in name) if dice.random() < 0.3 else name
+    return (
+        bytes(dice.choice((it, it ^ 32)) if chr(it).isalpha() else it for it in name)
+        if dice.random() < 0.3
+        else name
+    )
 
 
 def field(dice, name, value):
-    return name + b":" + dice.choice((b" ", b" ", b" ", b"", b"\t", b"  ")) + value + dice.choice((b"", b"", b"", b" ", b"\t "))
+    return (
+        name
+        + b":"
+        + dice.choice((b" ", b" ", b" ", b"", b"\t", b"  "))
+        + value
+        + dice.choice((b"", b"", b"", b" ", b"\t "))
+    )
 
 
 def length_fields(dice, body):
     """The field that tells the length of the body. In some cases it is missing, wrong or twice there, or another coding is told."""
+
     def one():
         if dice.random() < 0.06:
             value = dice.choice(LENGTHS)
@@ -132,13 +231,19 @@ def length_fields(dice, body):
     count = dice.choices((0, 1, 2, 3), (3, 94, 2, 1))[0]
     fields = [field(dice, in_any_case(dice, b"Content-Length"), one()) for _ in range(count)]
     if dice.random() < 0.03:
-        fields.insert(dice.randint(0, count), field(dice, in_any_case(dice, b"Transfer-Encoding"), dice.choice(CODINGS)))
+        fields.insert(
+            dice.randint(0, count), field(dice, in_any_case(dice, b"Transfer-Encoding"), dice.choice(CODINGS))
+        )
     return fields
 
 
 def fields(dice, body):
     lines = length_fields(dice, body) if body is not None else []
-    count = dice.choice((30, 31, 32, 33, 34)) - len(lines) if dice.random() < 0.06 else dice.choice((0, 1, 1, 2, 3, 5))
+    count = (
+        dice.choice((30, 31, 32, 33, 34)) - len(lines)
+        if dice.random() < 0.06
+        else dice.choice((0, 1, 1, 2, 3, 5))
+    )
     for _ in range(count):
         lines.insert(dice.randint(0, len(lines)), field(dice, dice.choice(NAMES), dice.choice(VALUES)))
     if dice.random() < 0.04:
@@ -151,7 +256,10 @@ def filled(dice, lines, size):
     rest = size - sum(len(it) + 2 for it in lines) - 2
     if rest < 6:
         return lines
-    return [*lines, dice.choice((b"X: " + b"a" * (rest - 5), b"X:" + b" " * (rest - 4), b"X" * (rest - 3) + b":"))]
+    return [
+        *lines,
+        dice.choice((b"X: " + b"a" * (rest - 5), b"X:" + b" " * (rest - 4), b"X" * (rest - 3) + b":")),
+    ]
 
 
 def head(dice, event, method, body):
@@ -203,7 +311,17 @@ def random_request(dice, event):
     if dice.random() < 0.07:
         sent = damaged(dice, sent)
     if dice.random() < 0.01:
-        sent = dice.choice((b"", b"\r\n", b"\n" * 8193, b"\r\n" * 4096, b"A" * 8193, b"\x16\x03\x01\x02\x00\x01\x00\x01\xfc", dice.randbytes(dice.randrange(200))))
+        sent = dice.choice(
+            (
+                b"",
+                b"\r\n",
+                b"\n" * 8193,
+                b"\r\n" * 4096,
+                b"A" * 8193,
+                b"\x16\x03\x01\x02\x00\x01\x00\x01\xfc",
+                dice.randbytes(dice.randrange(200)),
+            )
+        )
     return sent
 
 
@@ -249,14 +367,20 @@ def each_oddity():
         yield posted(b'{"a":' + b"[" * levels + b"]" * levels + b"," + whole[1:])
         yield posted(b"[" * levels + b"]" * levels)
     for space in SPACES:
-        yield posted(space.join([b"", b"{", b'"a"', b":", b"2", b",", b'"b"', b":", b"1", b",", b'"d"', b":", b"0", b"}", b""]))
+        yield posted(
+            space.join(
+                [b"", b"{", b'"a"', b":", b"2", b",", b'"b"', b":", b"1", b",", b'"d"', b":", b"0", b"}", b""]
+            )
+        )
     for size in (4095, 4096, 4097):
         yield posted(whole.ljust(size))
     for size in HEAD_SIZES:
         for first in (b"GET /standings", b"GET /nope", b"POST /rounds/1/tables/1"):
             line = first + b" HTTP/1.1"
             for lines in ([line, length], [line]):
-                yield b"".join(it + b"\r\n" for it in filled(random.Random(size), lines, size)) + b"\r\n" + whole
+                yield b"".join(
+                    it + b"\r\n" for it in filled(random.Random(size), lines, size)
+                ) + b"\r\n" + whole
             rest = size - len(line) - 4
             yield b"\n" * (rest % 2) + b"\r\n" * (rest // 2) + line + b"\r\n\r\n"
     for count in (31, 32, 33):

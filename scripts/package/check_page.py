@@ -33,7 +33,10 @@ def main():
         return 0
     if read(PAGE) == made():
         return 0
-    print("docs/check.html is not what its sources make. Make it: python3 -B -m scripts.package.check_page --write", file=sys.stderr)
+    print(
+        "docs/check.html is not what its sources make. Make it: python3 -B -m scripts.package.check_page --write",
+        file=sys.stderr,
+    )
     return 1
 
 

@@ -13,9 +13,7 @@ PACKAGE = "event-reporter"
 DOC = f"usr/share/doc/{PACKAGE}"
 # the lowest glibc that has the program's symbols, and the lowest Python that the companions run on
 DEPENDS = "libc6 (>= {glibc}), python3 (>= 3.8)"
-RECOMMENDS = (
-    "python3-jinja2, python3-waitress, python3-segno, python3-prompt-toolkit, python3-charset-normalizer, openssl"
-)
+RECOMMENDS = "python3-jinja2, python3-waitress, python3-segno, python3-prompt-toolkit, python3-charset-normalizer, openssl"
 SUGGESTS = "www-browser, bash-completion, man-db"
 DESCRIPTION = """\
 pairings, standings and playoff of a Swiss tournament of Magic
@@ -70,13 +68,21 @@ def packed(data):
 
 
 def place_of(place):
-    return "usr/" + place.replace("share/zsh/site-functions/", "share/zsh/vendor-completions/") + (".gz" if "/man/" in place else "")
+    return (
+        "usr/"
+        + place.replace("share/zsh/site-functions/", "share/zsh/vendor-completions/")
+        + (".gz" if "/man/" in place else "")
+    )
 
 
 def contents_of(place, data):
     if "/man/" in place:
         return packed(data)
-    return data.replace(b"#!/usr/bin/env python3\n", b"#!/usr/bin/python3\n", 1) if data.startswith(b"#!/usr/bin/env python3\n") else data
+    return (
+        data.replace(b"#!/usr/bin/env python3\n", b"#!/usr/bin/python3\n", 1)
+        if data.startswith(b"#!/usr/bin/env python3\n")
+        else data
+    )
 
 
 def licence():
@@ -93,7 +99,10 @@ def changelog():
 
 def installed(files):
     """Each file that the package brings, by its place below the root."""
-    tree = {place_of(place): (mode, data if mode == LINK else contents_of(place, data)) for place, (mode, data) in files.items()}
+    tree = {
+        place_of(place): (mode, data if mode == LINK else contents_of(place, data))
+        for place, (mode, data) in files.items()
+    }
     tree[f"{DOC}/changelog.gz"] = ("0644", packed(changelog()))
     tree[f"{DOC}/copyright"] = ("0644", licence())
     tree[f"usr/share/lintian/overrides/{PACKAGE}"] = ("0644", OVERRIDES.encode())
@@ -101,7 +110,9 @@ def installed(files):
 
 
 def control(tree):
-    kilobytes = sum(-(-len(data) // 1024) for _, data in tree.values()) + len({os.path.dirname(place) for place in tree})
+    kilobytes = sum(-(-len(data) // 1024) for _, data in tree.values()) + len(
+        {os.path.dirname(place) for place in tree}
+    )
     return (
         f"Package: {PACKAGE}\nVersion: {version()}\nSection: misc\nPriority: optional\nArchitecture: amd64\n"
         f"Maintainer: {maintainer()}\nInstalled-Size: {kilobytes}\n"
@@ -113,7 +124,11 @@ def control(tree):
 def tree_of(files):
     """All that dpkg-deb packs."""
     tree = installed(files)
-    sums = "".join(f"{hashlib.md5(data).hexdigest()}  {place}\n" for place, (mode, data) in sorted(tree.items()) if mode != LINK)
+    sums = "".join(
+        f"{hashlib.md5(data).hexdigest()}  {place}\n"
+        for place, (mode, data) in sorted(tree.items())
+        if mode != LINK
+    )
     return {
         **tree,
         "DEBIAN/control": ("0644", control(tree)),

@@ -28,7 +28,9 @@ def version():
     printed = output(f"{TOP}/{PROGRAM}", "--version").split(" ")[-1]
     written = scripts.version()
     if printed != written:
-        raise Unfit(f"the program prints version {printed}, and the sources have {written}. Build it: sh scripts/build")
+        raise Unfit(
+            f"the program prints version {printed}, and the sources have {written}. Build it: sh scripts/build"
+        )
     return printed
 
 

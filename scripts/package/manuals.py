@@ -13,7 +13,12 @@ from scripts import TOP
 
 sys.path.insert(0, f"{TOP}/extras")
 # the module of each companion that reads its command line
-COMPANIONS = ("companions.prompt.main", "companions.sheets.main", "companions.phones.main", "scripts.models.event_check")
+COMPANIONS = (
+    "companions.prompt.main",
+    "companions.sheets.main",
+    "companions.phones.main",
+    "scripts.models.event_check",
+)
 DESK, SHEETS, PHONES, CHECK = "event-desk", "event-sheets", "event-phones", "event-check"
 # what lies beside FILE, as docs/FORMATS.md says more of it, and who makes or reads it
 FILES = (
@@ -53,7 +58,9 @@ def option(action):
 
 def synopsis(actions):
     for action in actions:
-        yield f"[{option(action)}]".replace(", ", " | ") if action.option_strings else f"\\fI{escaped(action.metavar)}\\fR"
+        yield f"[{option(action)}]".replace(
+            ", ", " | "
+        ) if action.option_strings else f"\\fI{escaped(action.metavar)}\\fR"
 
 
 def described(actions):
@@ -74,30 +81,42 @@ def sections(text):
 
 def files_of(command):
     """What lies beside FILE and is the command's to make or to read."""
-    return "\n".join(f".TP\n.I FILE{escaped(ending)}\n{escaped(text[0].upper() + text[1:])}." for ending, text, *whose in FILES if command in whose)
+    return "\n".join(
+        f".TP\n.I FILE{escaped(ending)}\n{escaped(text[0].upper() + text[1:])}."
+        for ending, text, *whose in FILES
+        if command in whose
+    )
 
 
 def page(module, others):
     parser = module.parser()
     actions = sorted(parser._actions, key=lambda action: not action.option_strings)
     see = " ,\n".join(f".BR {name} (1)" for name in ("event_reporter", *others))
-    return "\n".join((
-        f'.TH {module.COMMAND.upper()} 1 "" "event_reporter" "User Commands"',
-        f".SH NAME\n{module.COMMAND} \\- {escaped(module.PURPOSE)}",
-        f".SH SYNOPSIS\n\\fB{escaped(module.COMMAND)}\\fR " + " ".join(synopsis(actions)),
-        f".SH DESCRIPTION\n{escaped(parser.description.strip())}",
-        ".SH OPTIONS\n" + "\n".join(described(actions)),
-        *sections(parser.epilog),
-        f".SH FILES\nBeside\n.I FILE\nlie these.\n{files_of(module.COMMAND)}",
-        f".SH SEE ALSO\n{see}",
-    )) + "\n"
+    return (
+        "\n".join(
+            (
+                f'.TH {module.COMMAND.upper()} 1 "" "event_reporter" "User Commands"',
+                f".SH NAME\n{module.COMMAND} \\- {escaped(module.PURPOSE)}",
+                f".SH SYNOPSIS\n\\fB{escaped(module.COMMAND)}\\fR " + " ".join(synopsis(actions)),
+                f".SH DESCRIPTION\n{escaped(parser.description.strip())}",
+                ".SH OPTIONS\n" + "\n".join(described(actions)),
+                *sections(parser.epilog),
+                f".SH FILES\nBeside\n.I FILE\nlie these.\n{files_of(module.COMMAND)}",
+                f".SH SEE ALSO\n{see}",
+            )
+        )
+        + "\n"
+    )
 
 
 def pages():
     """Each page by its path in the checkout."""
     modules = [importlib.import_module(name) for name in COMPANIONS]
     names = [module.COMMAND for module in modules]
-    return {f"extras/man/{it.COMMAND}.1": page(it, [name for name in names if name != it.COMMAND]) for it in modules}
+    return {
+        f"extras/man/{it.COMMAND}.1": page(it, [name for name in names if name != it.COMMAND])
+        for it in modules
+    }
 
 
 def read(path):
@@ -115,7 +134,10 @@ def main():
                 file.write(made)
         elif read(f"{TOP}/{path}") != made:
             status = 1
-            print(f"{path} is not what --help says. Make it: python3 -B -m scripts.package.manuals --write", file=sys.stderr)
+            print(
+                f"{path} is not what --help says. Make it: python3 -B -m scripts.package.manuals --write",
+                file=sys.stderr,
+            )
     return status
 
 

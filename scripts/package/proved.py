@@ -37,7 +37,10 @@ def verdicts_in(log):
             found[crate] = line.strip()
         elif KEPT.match(line):
             found[KEPT.match(line)[1]] = KEPT.match(line)[2]
-    return sorted(((name, line) for name, line in found.items() if name in crates_below("event_reporter")), key=lambda it: order.index(it[0]))
+    return sorted(
+        ((name, line) for name, line in found.items() if name in crates_below("event_reporter")),
+        key=lambda it: order.index(it[0]),
+    )
 
 
 def verdicts_on(program):
@@ -47,18 +50,26 @@ def verdicts_on(program):
     except FileNotFoundError:
         log = b""
     if f"\nprogram {program}\n".encode() not in log:
-        raise Unfit("there is no log of this program's build. In a fresh clone: bash scripts/test, or sh scripts/build")
+        raise Unfit(
+            "there is no log of this program's build. In a fresh clone: bash scripts/test, or sh scripts/build"
+        )
     found = verdicts_in(log)
-    unproved = crates_below("event_reporter") - {crate for crate, line in found if line.startswith(("logic=proved ", "kept: "))}
+    unproved = crates_below("event_reporter") - {
+        crate for crate, line in found if line.startswith(("logic=proved ", "kept: "))
+    }
     if unproved:
-        raise Unfit(f"the log of the build has no verdict on {', '.join(sorted(unproved))}. Build in a fresh clone")
+        raise Unfit(
+            f"the log of the build has no verdict on {', '.join(sorted(unproved))}. Build in a fresh clone"
+        )
     return found
 
 
 def toolchain(verdicts):
     """The program and each verdict have the sum of its logic; `rt version` says its name."""
     inside = re.search(rb"rattle logic=([0-9a-f]{64})", read(PROGRAM))[1].decode()
-    if any(not inside.startswith(part) for _, line in verdicts for part in re.findall(r"\bsum=([0-9a-f]+)", line)):
+    if any(
+        not inside.startswith(part) for _, line in verdicts for part in re.findall(r"\bsum=([0-9a-f]+)", line)
+    ):
         raise Unfit("the log of the build is of another toolchain than the program")
     if not shutil.which("rt"):
         return f"name unknown, as rt is not on the PATH; logic {inside}"
@@ -88,20 +99,22 @@ def page(is_draft):
         verdicts, draft = [], draft or str(fault)
     functions = sum(int(count) for _, line in verdicts for count in re.findall(r"functions=(\d+)", line))
     width = max((len(crate) for crate, _ in verdicts), default=0)
-    return "\n".join((
-        f"event_reporter {version()}",
-        "",
-        f"commit     {commit()}",
-        *([f"           A draft: {draft}"] if draft else []),
-        f"toolchain  {toolchain(verdicts)}",
-        "SHA-256 of bin/event_reporter",
-        f"           {program}",
-        "",
-        f"What the build says of each crate: {len(verdicts)} crates; where it counts them, {functions} functions.",
-        "",
-        *(f"{crate:<{width}} {line}" for crate, line in verdicts),
-        *([""] if verdicts else []),
-        "How the test command ended:",
-        how_tests_ended(),
-        "",
-    )).encode()
+    return "\n".join(
+        (
+            f"event_reporter {version()}",
+            "",
+            f"commit     {commit()}",
+            *([f"           A draft: {draft}"] if draft else []),
+            f"toolchain  {toolchain(verdicts)}",
+            "SHA-256 of bin/event_reporter",
+            f"           {program}",
+            "",
+            f"What the build says of each crate: {len(verdicts)} crates; where it counts them, {functions} functions.",
+            "",
+            *(f"{crate:<{width}} {line}" for crate, line in verdicts),
+            *([""] if verdicts else []),
+            "How the test command ended:",
+            how_tests_ended(),
+            "",
+        )
+    ).encode()

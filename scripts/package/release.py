@@ -30,7 +30,11 @@ examples:
 def stamped(page):
     """A man page with the date and the version on its first line."""
     day = time.strftime("%Y-%m-%d", time.gmtime(epoch())).encode()
-    made, count = re.subn(rb'\A(\.TH \S+ 1) "" "event_reporter"', rb'\1 "%s" "event_reporter %s"' % (day, version().encode()), page)
+    made, count = re.subn(
+        rb'\A(\.TH \S+ 1) "" "event_reporter"',
+        rb'\1 "%s" "event_reporter %s"' % (day, version().encode()),
+        page,
+    )
     if not count:
         raise Unfit("a man page has another first line than release expects")
     return made
@@ -38,8 +42,15 @@ def stamped(page):
 
 def contents(is_draft):
     """Each place below the prefix, with its mode and its bytes; of a link, what it leads to."""
-    makers = {"": read, "manual": lambda source: stamped(read(source)), "proved": lambda _: proved.page(is_draft)}
-    return {it.place: (it.mode, it.source.encode() if it.mode == LINK else makers[it.mark](it.source)) for it in entries()}
+    makers = {
+        "": read,
+        "manual": lambda source: stamped(read(source)),
+        "proved": lambda _: proved.page(is_draft),
+    }
+    return {
+        it.place: (it.mode, it.source.encode() if it.mode == LINK else makers[it.mark](it.source))
+        for it in entries()
+    }
 
 
 def write_tree(room, tree):
@@ -74,9 +85,19 @@ def make_package(files, to):
 
 def unpacked(files):
     """What the tarball unpacks to: the files, and what installs them."""
-    lines = "".join(f"{mode} {place}{' ' + data.decode() if mode == LINK else ''}\n" for place, (mode, data) in sorted(files.items()))
+    lines = "".join(
+        f"{mode} {place}{' ' + data.decode() if mode == LINK else ''}\n"
+        for place, (mode, data) in sorted(files.items())
+    )
     scripts = {name: ("0755", read(f"scripts/{name}")) for name in ("install", "uninstall")}
-    return {**files, **scripts, "files": ("0644", f"# What install puts below the prefix: mode and place, or a link and what it leads to.\n{lines}".encode())}
+    return {
+        **files,
+        **scripts,
+        "files": (
+            "0644",
+            f"# What install puts below the prefix: mode and place, or a link and what it leads to.\n{lines}".encode(),
+        ),
+    }
 
 
 def make_tarball(files, to):
@@ -86,7 +107,19 @@ def make_tarball(files, to):
         os.mkdir(f"{room}/{name}")
         write_tree(f"{room}/{name}", unpacked(files))
         # not by Python's own tarfile, whose bytes are those of its version
-        words = ["tar", "--format=ustar", "--sort=name", "--owner=root:0", "--group=root:0", f"--mtime=@{epoch()}", "-C", room, "-cf", "-", name]
+        words = [
+            "tar",
+            "--format=ustar",
+            "--sort=name",
+            "--owner=root:0",
+            "--group=root:0",
+            f"--mtime=@{epoch()}",
+            "-C",
+            room,
+            "-cf",
+            "-",
+            name,
+        ]
         made = subprocess.run(words, stdout=subprocess.PIPE, check=True).stdout
     with open(path, "wb") as file:
         file.write(debian.packed(made))
@@ -132,12 +165,31 @@ def run(given):
 
 def main():
     as_it_is = argparse.RawDescriptionHelpFormatter
-    words = argparse.ArgumentParser(prog="scripts/release", description=__doc__, epilog=EXAMPLES, formatter_class=as_it_is)
-    words.add_argument("--to", metavar="FOLDER", default=f"{TOP}/out", help="where they are put; without it the folder out of the checkout")
-    words.add_argument("--draft", action="store_true", help="take the checkout and the program as they are, for tests; PROVED says so")
+    words = argparse.ArgumentParser(
+        prog="scripts/release", description=__doc__, epilog=EXAMPLES, formatter_class=as_it_is
+    )
+    words.add_argument(
+        "--to",
+        metavar="FOLDER",
+        default=f"{TOP}/out",
+        help="where they are put; without it the folder out of the checkout",
+    )
+    words.add_argument(
+        "--draft",
+        action="store_true",
+        help="take the checkout and the program as they are, for tests; PROVED says so",
+    )
     words.add_argument("--proved", action="store_true", help="print the page PROVED and make nothing")
-    words.add_argument("--links", action="store_true", help="list the links of installed documents that lead nowhere, and make nothing")
-    words.add_argument("--tree", metavar="FOLDER", help="put into this folder what the tarball unpacks to, as scripts/install does")
+    words.add_argument(
+        "--links",
+        action="store_true",
+        help="list the links of installed documents that lead nowhere, and make nothing",
+    )
+    words.add_argument(
+        "--tree",
+        metavar="FOLDER",
+        help="put into this folder what the tarball unpacks to, as scripts/install does",
+    )
     try:
         run(words.parse_args())
     except (Unfit, BadList) as fault:

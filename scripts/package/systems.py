@@ -26,7 +26,11 @@ def ask_lintian(package):
         left_out("the package by Debian's own checks", "lintian is not installed")
         return
     ran = run("lintian", "--allow-root", "--fail-on", "error,warning", package)
-    check("lintian", (ran.returncode, [line for line in ran.stdout.split("\n") if line[:2] in ("E:", "W:")]), (0, []))
+    check(
+        "lintian",
+        (ran.returncode, [line for line in ran.stdout.split("\n") if line[:2] in ("E:", "W:")]),
+        (0, []),
+    )
 
 
 def in_systems(package, room):
@@ -45,7 +49,15 @@ def in_system(package, name, root, runs):
     """From the package to the first pairing, with man pages; then it is removed, and the events stay."""
     shutil.copy(package, f"{root}/root/it.deb")
     shutil.copy("/etc/resolv.conf", f"{root}/etc/resolv.conf")
-    inside = ("env", "-i", "PATH=/usr/sbin:/usr/bin:/sbin:/bin", "DEBIAN_FRONTEND=noninteractive", "LC_ALL=C.UTF-8", "chroot", root)
+    inside = (
+        "env",
+        "-i",
+        "PATH=/usr/sbin:/usr/bin:/sbin:/bin",
+        "DEBIAN_FRONTEND=noninteractive",
+        "LC_ALL=C.UTF-8",
+        "chroot",
+        root,
+    )
     run(*inside, "apt-get", "update")
     before, begun = listing(root), time.monotonic()
     ran = run(*inside, "apt-get", "install", "-y", "/root/it.deb")
@@ -54,11 +66,19 @@ def in_system(package, name, root, runs):
         check(f"{name}: says why", "libc6 (>= " in ran.stdout + ran.stderr, True)
         return
     ran = run(*inside, "sh", "-c", f"cd /root; {FIRST_PAIRING}")
-    check(f"{name}: to the first pairing", (ran.returncode, ran.stderr, " Tab    A    B Score Names" in ran.stdout), (0, "", True))
+    check(
+        f"{name}: to the first pairing",
+        (ran.returncode, ran.stderr, " Tab    A    B Score Names" in ran.stdout),
+        (0, "", True),
+    )
     print(f"{name}: {time.monotonic() - begun:.0f} seconds from the package to the first pairing")
     run(*inside, "apt-get", "install", "-y", "man-db")
     for command in COMMANDS:
-        check(f"{name}: man {command}", f"NAME {command} - " in " ".join(run(*inside, "man", command).stdout.split()), True)
+        check(
+            f"{name}: man {command}",
+            f"NAME {command} - " in " ".join(run(*inside, "man", command).stdout.split()),
+            True,
+        )
     run(*inside, "apt-get", "purge", "-y", "event-reporter")
     # what man keeps of the pages that it has shown is its own
     ours = re.compile("(?!var/cache/man/).*event[-_](reporter|desk|sheets|phones|check|companions)")

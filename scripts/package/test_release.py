@@ -33,7 +33,10 @@ def place():
 def released(place):
     """What two releases said, with another umask, time zone and language."""
     ways = ("", "umask 077; export TZ=Asia/Tokyo LC_ALL=C;")
-    lines = [("sh", "-c", f'{before} exec bash scripts/release --draft --to "$0"', f"{place}/{number}") for number, before in enumerate(ways)]
+    lines = [
+        ("sh", "-c", f'{before} exec bash scripts/release --draft --to "$0"', f"{place}/{number}")
+        for number, before in enumerate(ways)
+    ]
     with concurrent.futures.ThreadPoolExecutor(len(ways)) as pool:
         return [*pool.map(lambda line: run(*line, cwd=TOP), lines)]
 
@@ -57,8 +60,14 @@ def test_twice_the_same_bytes(place, released):
     for ran in released:
         assert (ran.returncode, ran.stderr) == (0, "")
     names, version = sorted(os.listdir(f"{place}/0")), scripts.version()
-    assert names == ["SHA256SUMS", f"event-reporter-{version}-x86_64-linux.tar.gz", f"event-reporter_{version}_amd64.deb"]
-    assert filecmp.cmpfiles(f"{place}/0", f"{place}/1", names, shallow=False)[0] == names, "twice the same bytes"
+    assert names == [
+        "SHA256SUMS",
+        f"event-reporter-{version}-x86_64-linux.tar.gz",
+        f"event-reporter_{version}_amd64.deb",
+    ]
+    assert (
+        filecmp.cmpfiles(f"{place}/0", f"{place}/1", names, shallow=False)[0] == names
+    ), "twice the same bytes"
     assert run("sha256sum", "--quiet", "-c", "SHA256SUMS", cwd=f"{place}/0").returncode == 0, "checksums"
 
 
@@ -67,12 +76,20 @@ def test_files(root, unpacked):
     places = [entry.place for entry in entries()]
     assert sorted(files_below(unpacked)) == sorted([*places, "files", "install", "uninstall"]), "the tarball"
     inside = files_below(root)
-    own = {f"{debian.DOC}/copyright", f"{debian.DOC}/changelog.gz", "usr/share/lintian/overrides/event-reporter"}
+    own = {
+        f"{debian.DOC}/copyright",
+        f"{debian.DOC}/changelog.gz",
+        "usr/share/lintian/overrides/event-reporter",
+    }
     assert set(inside) == {debian.place_of(place) for place in places} | own, "the package"
     assert inside["usr/bin/event_reporter"][1] == described(f"{TOP}/{PROGRAM}")[1], "the program"
     with open(f"{root}/usr/share/doc/event-reporter/PROVED", encoding="utf-8") as file:
         proved = file.read()
-    assert [name for name in ("commit ", "toolchain ", "SHA-256 ", "How the test command ended:") if f"\n{name}" not in proved] == [], "PROVED"
+    assert [
+        name
+        for name in ("commit ", "toolchain ", "SHA-256 ", "How the test command ended:")
+        if f"\n{name}" not in proved
+    ] == [], "PROVED"
 
 
 def test_install(unpacked, room):
@@ -81,20 +98,30 @@ def test_install(unpacked, room):
     record = "share/doc/event-reporter/INSTALLED"
     assert run("sh", f"{unpacked}/install", prefix).returncode == 0, "installed"
     installed = files_below(prefix)
-    assert {place: mode for place, (mode, _) in installed.items()} == {**modes, record: "0644"}, "what is installed"
-    with open(f"{prefix}/bin/event-gone", "w", encoding="utf-8"), open(f"{prefix}/{record}", "a", encoding="utf-8") as file:
+    assert {place: mode for place, (mode, _) in installed.items()} == {
+        **modes,
+        record: "0644",
+    }, "what is installed"
+    with open(f"{prefix}/bin/event-gone", "w", encoding="utf-8"), open(
+        f"{prefix}/{record}", "a", encoding="utf-8"
+    ) as file:
         file.write("file bin/event-gone\n")
     assert run("sh", f"{unpacked}/install", prefix).returncode == 0, "installed over it"
     assert files_below(prefix) == installed, "the same, and no file that is not on the list"
     ran = run(f"{prefix}/bin/event-desk", "--version", env={"PATH": os.environ["PATH"]})
-    assert (ran.returncode, ran.stdout) == (0, f"event-desk (event_reporter) {scripts.version()}\n"), "it runs"
+    assert (ran.returncode, ran.stdout) == (
+        0,
+        f"event-desk (event_reporter) {scripts.version()}\n",
+    ), "it runs"
     assert run("sh", f"{unpacked}/uninstall", prefix).returncode == 0, "uninstalled"
     assert list(os.walk(prefix)) == [(prefix, [], [])], "nothing is left"
     assert run("sh", f"{unpacked}/uninstall", prefix).returncode == 3, "not twice"
     for name in ("install", "uninstall"):
         assert run("sh", f"{unpacked}/{name}").returncode == 2, f"{name}, no prefix"
         assert run("sh", f"{unpacked}/{name}", "--nope").returncode == 2, f"{name}, an option"
-        assert run("sh", f"{unpacked}/{name}", "--help").stdout.startswith(f"usage: {name} PREFIX"), f"{name} --help"
+        assert run("sh", f"{unpacked}/{name}", "--help").stdout.startswith(
+            f"usage: {name} PREFIX"
+        ), f"{name} --help"
 
 
 def test_install_from_checkout(unpacked, room):
@@ -116,7 +143,14 @@ def test_evening(root, room):
         block = re.search(r"## By command lines\n.*?```console\n(.*?)```", readme.read(), re.S)[1]
     for step in re.split(r"^\$ ", block, flags=re.M)[1:]:
         line, _, printed = step.partition("\n")
-        ran = subprocess.run(["sh", "-c", f"{line} 2>&1"], cwd=room, env=env, stdout=subprocess.PIPE, text=True, timeout=SECONDS)
+        ran = subprocess.run(
+            ["sh", "-c", f"{line} 2>&1"],
+            cwd=room,
+            env=env,
+            stdout=subprocess.PIPE,
+            text=True,
+            timeout=SECONDS,
+        )
         assert ran.stdout == printed, line
 
 
@@ -125,16 +159,29 @@ def at_the_prompt(root, room):
     """An evening at the prompt, by a path alone, with nothing on the PATH."""
     with open(f"{room}/names.csv", "w", encoding="utf-8") as names:
         names.write("name\nAna\nBo\nCy\nDi\n")
-    return run(sys.executable, f"{root}/usr/bin/event-desk", "friday.event", env={"PATH": "/nowhere"}, cwd=room, input=EVENING)
+    return run(
+        sys.executable,
+        f"{root}/usr/bin/event-desk",
+        "friday.event",
+        env={"PATH": "/nowhere"},
+        cwd=room,
+        input=EVENING,
+    )
 
 
 def test_prompt(at_the_prompt):
-    assert (at_the_prompt.returncode, at_the_prompt.stderr, "champion" in at_the_prompt.stdout) == (0, "", True)
+    assert (at_the_prompt.returncode, at_the_prompt.stderr, "champion" in at_the_prompt.stdout) == (
+        0,
+        "",
+        True,
+    )
 
 
 @pytest.mark.needs("the sheets of the package", module="jinja2", package="python3-jinja2")
 def test_sheets(at_the_prompt, root, room):
-    ran = run(sys.executable, f"{root}/usr/bin/event-sheets", "friday.event", env={"PATH": "/nowhere"}, cwd=room)
+    ran = run(
+        sys.executable, f"{root}/usr/bin/event-sheets", "friday.event", env={"PATH": "/nowhere"}, cwd=room
+    )
     assert (ran.returncode, ran.stderr, "Friday Night" in ran.stdout) == (0, "", True)
 
 
@@ -149,28 +196,42 @@ def test_desktop_entry(root, room):
     env = {"PATH": f"{root}/usr/bin:{os.path.dirname(sys.executable)}:/usr/bin:/bin", "HOME": room}
     for name in ("friday", "friday.event"):
         ran = run(shell, option, line, env=env, input=f"{name}\ninit Friday Night 3 0\n")
-        assert ran.stdout.startswith(f"{'friday.event' + chr(10) if name == 'friday.event' else ''}An event of these"), "the events that are there"
+        assert ran.stdout.startswith(
+            f"{'friday.event' + chr(10) if name == 'friday.event' else ''}An event of these"
+        ), "the events that are there"
         assert "Friday Night (friday.event)" in ran.stdout, "the prompt"
 
 
 @pytest.mark.parametrize("name", COMMANDS)
 def test_page(root, name):
     page = f"{root}/usr/share/man/man1/{name}.1.gz"
-    head = subprocess.run(["gzip", "-dc", page], capture_output=True, text=True, check=True, timeout=SECONDS).stdout.split("\n")[0]
-    assert re.findall(r'^\.TH \S+ 1 "\d{4}-\d\d-\d\d" "(.*?)"', head) == [f"event_reporter {scripts.version()}"]
+    head = subprocess.run(
+        ["gzip", "-dc", page], capture_output=True, text=True, check=True, timeout=SECONDS
+    ).stdout.split("\n")[0]
+    assert re.findall(r'^\.TH \S+ 1 "\d{4}-\d\d-\d\d" "(.*?)"', head) == [
+        f"event_reporter {scripts.version()}"
+    ]
 
 
 @pytest.mark.needs("pages as they are shown", command="man")
 @pytest.mark.parametrize("name", COMMANDS)
 def test_page_as_it_is_shown(root, name):
-    ran = run("man", "--warnings", "-l", f"{root}/usr/share/man/man1/{name}.1.gz", env={**os.environ, "MANWIDTH": "80"})
+    ran = run(
+        "man",
+        "--warnings",
+        "-l",
+        f"{root}/usr/share/man/man1/{name}.1.gz",
+        env={**os.environ, "MANWIDTH": "80"},
+    )
     assert (ran.returncode, ran.stderr) == (0, "")
 
 
 def test_pages_as_help_says():
     for path, made in manuals.pages().items():
         assert manuals.read(f"{TOP}/{path}") == made, path
-    assert sorted(os.path.basename(path)[:-2] for path in manuals.pages()) == COMPANIONS, "a page for each companion"
+    assert (
+        sorted(os.path.basename(path)[:-2] for path in manuals.pages()) == COMPANIONS
+    ), "a page for each companion"
 
 
 def test_files_beside_an_event():
@@ -178,7 +239,9 @@ def test_files_beside_an_event():
     with open(f"{TOP}/docs/FORMATS.md", encoding="utf-8") as file:
         section = re.search(r"^## 7\. .*?(?=^###? )", file.read(), re.M | re.S)[0]
     rows = [it.partition(", and ")[0] for it in re.findall(r"^\| (`FILE.*?) \|", section, re.M)]
-    due = {re.sub("(-NNNN)?-DATE-TIME$", "-*", it) for row in rows for it in re.findall(r"`FILE(\.[^`]*)`", row)}
+    due = {
+        re.sub("(-NNNN)?-DATE-TIME$", "-*", it) for row in rows for it in re.findall(r"`FILE(\.[^`]*)`", row)
+    }
     assert {it[0] for it in manuals.FILES} == due
 
 

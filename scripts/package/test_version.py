@@ -15,7 +15,9 @@ from scripts.package.installed import COMPANIONS
 def printed(*words):
     # a companion that is started here leaves no folder in the checkout
     env = {**os.environ, "PYTHONDONTWRITEBYTECODE": "1"}
-    ran = subprocess.run(words, cwd=TOP, env=env, stdin=subprocess.DEVNULL, stdout=subprocess.PIPE, text=True, timeout=60)
+    ran = subprocess.run(
+        words, cwd=TOP, env=env, stdin=subprocess.DEVNULL, stdout=subprocess.PIPE, text=True, timeout=60
+    )
     return ran.returncode, ran.stdout
 
 

@@ -79,7 +79,10 @@ class Checkout:
         write(f"{room}/toolchain/rt", "#!/bin/sh\n", 0o755)
         os.makedirs(f"{room}/bin")
         for name in TOOLS:
-            os.symlink(sys.executable if name == "python3" else os.path.realpath(shutil.which(name)), f"{room}/bin/{name}")
+            os.symlink(
+                sys.executable if name == "python3" else os.path.realpath(shutil.which(name)),
+                f"{room}/bin/{name}",
+            )
         if is_built:
             write(f"{self.top}/{PROGRAM}", STAND_IN, 0o755)
 
@@ -89,7 +92,13 @@ class Checkout:
     def run(self, *words, called=None, has_toolchain=False, folder=None, given=""):
         line = [called or f"{self.top}/event_reporter", *words]
         ran = subprocess.run(
-            line, cwd=folder or self.room, env=self.path(has_toolchain), input=given, capture_output=True, text=True, timeout=PATIENCE
+            line,
+            cwd=folder or self.room,
+            env=self.path(has_toolchain),
+            input=given,
+            capture_output=True,
+            text=True,
+            timeout=PATIENCE,
         )
         return ran.returncode, ran.stdout, ran.stderr
 
@@ -97,7 +106,12 @@ class Checkout:
         """The same, where a person sees standard error."""
         screen, terminal = pty.openpty()
         ran = subprocess.run(
-            [f"{self.top}/event_reporter", *words], env=self.path(False), stdin=subprocess.DEVNULL, stdout=subprocess.PIPE, stderr=terminal, timeout=PATIENCE
+            [f"{self.top}/event_reporter", *words],
+            env=self.path(False),
+            stdin=subprocess.DEVNULL,
+            stdout=subprocess.PIPE,
+            stderr=terminal,
+            timeout=PATIENCE,
         )
         os.write(terminal, LAST)
         said = b""
@@ -108,7 +122,13 @@ class Checkout:
         return ran.returncode, ran.stdout.decode(), said[: -len(LAST)].decode().replace("\r\n", "\n")
 
     def build(self):
-        ran = subprocess.run(["sh", f"{self.top}/scripts/build"], env=self.path(True), capture_output=True, text=True, timeout=PATIENCE)
+        ran = subprocess.run(
+            ["sh", f"{self.top}/scripts/build"],
+            env=self.path(True),
+            capture_output=True,
+            text=True,
+            timeout=PATIENCE,
+        )
         return ran.returncode
 
     def date(self, name, seconds):
@@ -139,7 +159,9 @@ class Checkout:
 
     def names(self):
         return sorted(
-            os.path.relpath(os.path.join(folder, name), self.room) for folder, folders, names in os.walk(self.room) for name in (*folders, *names)
+            os.path.relpath(os.path.join(folder, name), self.room)
+            for folder, folders, names in os.walk(self.room)
+            for name in (*folders, *names)
         )
 
 
@@ -158,7 +180,11 @@ def test_it_runs_what_is_built(checkout):
     checkout.date_all()
     before = checkout.names()
     for has_toolchain in (False, True):
-        assert checkout.run("players", "a b", "", has_toolchain=has_toolchain) == (0, "ran 3: players a b \n", ""), "built"
+        assert checkout.run("players", "a b", "", has_toolchain=has_toolchain) == (
+            0,
+            "ran 3: players a b \n",
+            "",
+        ), "built"
         refused = checkout.run("refused", has_toolchain=has_toolchain)
         assert refused == (1, "ran 1: refused\n", "refused 14 AlreadyReported\n"), "its status and its errors"
     assert checkout.run("read", given="enrol\tAna\n") == (0, "ran 1: read\nenrol\tAna\n", ""), "what it reads"
@@ -173,12 +199,24 @@ def test_it_builds_nothing_by_itself(checkout):
     checkout.date("er_cli/src/lib.rt", 60)
     before, said = checkout.names(), NEWER.format(top=checkout.top)
     for has_toolchain in (False, True):
-        assert checkout.run("standings", has_toolchain=has_toolchain) == (0, "ran 1: standings\n", ""), "newer sources"
+        assert checkout.run("standings", has_toolchain=has_toolchain) == (
+            0,
+            "ran 1: standings\n",
+            "",
+        ), "newer sources"
         refused = checkout.run("refused", has_toolchain=has_toolchain)
         assert refused == (1, "ran 1: refused\n", "refused 14 AlreadyReported\n"), "newer sources, refused"
-    assert checkout.run_at_terminal("standings") == (0, "ran 1: standings\n", said), "newer sources, at a terminal"
+    assert checkout.run_at_terminal("standings") == (
+        0,
+        "ran 1: standings\n",
+        said,
+    ), "newer sources, at a terminal"
     at_terminal = checkout.run_at_terminal("refused")
-    assert at_terminal == (1, "ran 1: refused\n", f"{said}refused 14 AlreadyReported\n"), "newer sources, refused at a terminal"
+    assert at_terminal == (
+        1,
+        "ran 1: refused\n",
+        f"{said}refused 14 AlreadyReported\n",
+    ), "newer sources, refused at a terminal"
     assert checkout.builds() == 0, "newer sources: nothing was built"
     assert checkout.names() == before, "newer sources: nothing is left"
 
@@ -192,17 +230,33 @@ def test_it_follows_links(checkout):
     os.symlink("er", f"{other}/twice")
     os.symlink(checkout.top, f"{checkout.room}/home/folder")
     before = checkout.names()
-    for called in (f"{other}/er", f"{other}/relative", f"{other}/twice", f"{checkout.room}/home/folder/event_reporter"):
-        assert checkout.run("x", called=called) == (0, "ran 1: x\n", ""), f"through {os.path.basename(called)}"
+    for called in (
+        f"{other}/er",
+        f"{other}/relative",
+        f"{other}/twice",
+        f"{checkout.room}/home/folder/event_reporter",
+    ):
+        assert checkout.run("x", called=called) == (
+            0,
+            "ran 1: x\n",
+            "",
+        ), f"through {os.path.basename(called)}"
     assert checkout.run("x", called="./er", folder=other) == (0, "ran 1: x\n", ""), "from its folder"
     on_path = {"PATH": f"{other}:{checkout.room}/bin"}
-    ran = subprocess.run(["sh", "-c", "er x"], cwd=checkout.room, env=on_path, capture_output=True, text=True, timeout=PATIENCE)
+    ran = subprocess.run(
+        ["sh", "-c", "er x"], cwd=checkout.room, env=on_path, capture_output=True, text=True, timeout=PATIENCE
+    )
     assert (ran.returncode, ran.stdout, ran.stderr) == (0, "ran 1: x\n", ""), "by its name"
     assert checkout.names() == before, "links: nothing is left"
     os.unlink(f"{checkout.top}/{PROGRAM}")
     before = checkout.names()
     status, printed, said = checkout.run("x", called=f"{other}/er")
-    assert (status, printed, NO_TOOLCHAIN in said, checkout.names()) == (3, "", True, before), "through a link, not built"
+    assert (status, printed, NO_TOOLCHAIN in said, checkout.names()) == (
+        3,
+        "",
+        True,
+        before,
+    ), "through a link, not built"
 
 
 def test_it_builds_before_the_first_run(unbuilt):
@@ -215,8 +269,16 @@ def test_it_builds_before_the_first_run(unbuilt):
     assert (status, printed, "build.log.failed says why" in said) == (3, "", True), "a build that fails"
     os.unlink(f"{unbuilt.top}/fails")
     status, printed, said = unbuilt.run("x", has_toolchain=True)
-    assert (status, printed, "10 to 50 minutes" in said, unbuilt.builds()) == (0, "new 1: x\n", True, 2), "not built, built first"
-    assert (unbuilt.run("x", has_toolchain=True), unbuilt.builds()) == ((0, "new 1: x\n", ""), 2), "and not again"
+    assert (status, printed, "10 to 50 minutes" in said, unbuilt.builds()) == (
+        0,
+        "new 1: x\n",
+        True,
+        2,
+    ), "not built, built first"
+    assert (unbuilt.run("x", has_toolchain=True), unbuilt.builds()) == (
+        (0, "new 1: x\n", ""),
+        2,
+    ), "and not again"
 
 
 def test_a_build_keeps_the_old_program(checkout):
@@ -229,7 +291,9 @@ def test_a_build_keeps_the_old_program(checkout):
         write(f"{checkout.top}/{PROGRAM}", STAND_IN, 0o755)
         write(f"{checkout.top}/goes-on", "")
         count = checkout.builds()
-        with subprocess.Popen(["sh", f"{checkout.top}/scripts/build"], env=checkout.path(True), stderr=subprocess.DEVNULL) as builder:
+        with subprocess.Popen(
+            ["sh", f"{checkout.top}/scripts/build"], env=checkout.path(True), stderr=subprocess.DEVNULL
+        ) as builder:
             assert comes(lambda: checkout.builds() > count), "begun"
             assert checkout.run("x") == (0, "ran 1: x\n", ""), "while it is built"
             getattr(builder, how)()
@@ -261,7 +325,9 @@ def test_a_build_stops_with_what_started_it(unbuilt):
     for number in (signal.SIGINT, signal.SIGTERM):
         count = unbuilt.builds()
         line = [f"{unbuilt.top}/event_reporter", "x"]
-        with subprocess.Popen(line, env=unbuilt.path(True), stderr=subprocess.DEVNULL, start_new_session=True) as first:
+        with subprocess.Popen(
+            line, env=unbuilt.path(True), stderr=subprocess.DEVNULL, start_new_session=True
+        ) as first:
             assert comes(lambda: unbuilt.builds() > count), "begun"
             os.killpg(first.pid, number)
             assert first.wait(PATIENCE) != 0, f"ended by {number.name}"

@@ -233,8 +233,10 @@ class EventCache:
         )
         common = list(zip(rounds, before.rounds))
         has_rounds = bool(common) or not before.rounds
-        return has_players and has_rounds and all(
-            [it.seats for it in one] == [it.seats for it in other] for one, other in common
+        return (
+            has_players
+            and has_rounds
+            and all([it.seats for it in one] == [it.seats for it in other] for one, other in common)
         )
 
 

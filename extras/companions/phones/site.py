@@ -291,7 +291,9 @@ class Site(Pages):
         has_draw = rule_of_event(self.cache.file) is not None
         drawn = drawn_shown(text, say_in(language)) if rows else ""
         records = records_before(snapshot.event, snapshot.number)
-        return self.page("pairings.html", language, rows=rows, drawn=drawn, has_draw=has_draw, records=records).body
+        return self.page(
+            "pairings.html", language, rows=rows, drawn=drawn, has_draw=has_draw, records=records
+        ).body
 
     def who(self, asked: Asked, number: int) -> Reply:
         """A player's own page: how the tiebreakers come about."""
@@ -616,7 +618,9 @@ class Site(Pages):
         drops: tuple[int, ...] = (),
     ) -> None:
         when, drops = time.strftime(TIME), drops or drops_in(at.asked.form, at.speaks_for)
-        report = Report(when, at.number, *at.match.seats, score, outcome, stored, at.asked.origin, drops, at.seat)
+        report = Report(
+            when, at.number, *at.match.seats, score, outcome, stored, at.asked.origin, drops, at.seat
+        )
         # nothing but the report says it
         says_alone = outcome in (WAITS, WRONG, HOME, STAYS, CALLS, CALLS_OFF)
         try:

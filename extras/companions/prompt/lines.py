@@ -48,9 +48,11 @@ class OutOfStep(Exception):
 class Typing(Protocol):
     """A terminal at which lines are typed."""
 
-    def line(self, prompt: str) -> str: ...
+    def line(self, prompt: str) -> str:
+        ...
 
-    def answer(self, question: str) -> str: ...
+    def answer(self, question: str) -> str:
+        ...
 
     def say_above(self, prompt: str, text: str) -> None:
         """Says what came in above the line that is being typed, which stays as it is, behind this prompt."""
@@ -204,7 +206,6 @@ class Input:
                 # it was typed for the prompt, as when lines are pasted, and is done next
                 self.ahead.insert(0, line)
                 return False
-
 
     def within_a_line(self, question: str) -> str:
         """A plain terminal moves a line that is as long as it is wide, so a long question stands above it."""

@@ -23,9 +23,7 @@ class Listing:
         """A list as CSV, on the screen or into a file that is not there yet."""
         kind, _, path = rest.partition(" ")
         if kind not in KINDS:
-            raise Declined(
-                f"There are {', '.join(KINDS)},\nas: export standings, or export standings s.csv"
-            )
+            raise Declined(f"There are {', '.join(KINDS)},\nas: export standings, or export standings s.csv")
         first, _, after = path.strip().partition(" ")
         has_names = first == "names"
         if has_names and kind not in OF_MATCHES:

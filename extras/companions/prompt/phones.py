@@ -35,7 +35,6 @@ event-phones {file} --at http://192.168.1.10:8080"""
 
 
 class Phones:
-
     def __init__(self, session: Session):
         self.session = session
 

@@ -211,7 +211,9 @@ class Players:
 
     def leading_words(self, names: set[str]) -> list[str]:
         """Names that lists may have under another letter than people look for."""
-        found = sorted((player.number, player.name) for name in names if (player := self.session.event.named(name)))
+        found = sorted(
+            (player.number, player.name) for name in names if (player := self.session.event.named(name))
+        )
         if not found:
             return []
         shown = [f"{number:4}  {visible(listed(name).text)}" for number, name in found[:MOST_GUESSES]]
@@ -264,8 +266,7 @@ class Players:
     # ---- names that are wrong
 
     def rename(self, rest: str) -> None:
-        """Before the start the event is made again with the right name; after it the player is shown by it.
-        """
+        """Before the start the event is made again with the right name; after it the player is shown by it."""
         session = self.session
         found = re.fullmatch(r"([0-9]{1,9})\s+(.+)", rest)
         if not found:

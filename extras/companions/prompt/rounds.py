@@ -152,8 +152,7 @@ class Rounds:
         session.say(f"Its key is in {session.file}.keys. Show it to the players now:", f"  {key}")
 
     def check(self, rest: str) -> None:
-        """Whether a round is the one that its key gives: the program pairs the copy that was made before it.
-        """
+        """Whether a round is the one that its key gives: the program pairs the copy that was made before it."""
         session = self.session
         number = int(numbers_in(rest or str(len(session.event.rounds)), 1, 1, "check 3")[0])
         if not 1 <= number <= len(session.event.rounds):
@@ -228,8 +227,7 @@ class Rounds:
         self.say_of_which_round(number)
 
     def say_of_which_round(self, number: Optional[int] = None) -> None:
-        """After standings that are longer than the screen: those of the last complete round, or of an earlier one.
-        """
+        """After standings that are longer than the screen: those of the last complete round, or of an earlier one."""
 
         def told() -> str:
             after = self.session.event.complete_rounds() if number is None else number
@@ -261,8 +259,7 @@ class Rounds:
         session.has_moved = True
 
     def bracket_of_a_cut(self) -> str:
-        """Who is in, and who meets whom: the program cuts a copy. What it refuses there it would refuse here.
-        """
+        """Who is in, and who meets whom: the program cuts a copy. What it refuses there it would refuse here."""
         session = self.session
         with unbroken(), tempfile.TemporaryDirectory() as room:
             copy = session.copies.made(Copy(0, "", "", f"{room}/cut.event"))

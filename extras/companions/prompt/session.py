@@ -277,8 +277,7 @@ class Session:
             return None
 
     def is_missing(self) -> bool:
-        """Whether the event is gone and its copies are there, as when `back` was stopped between its moves.
-        """
+        """Whether the event is gone and its copies are there, as when `back` was stopped between its moves."""
         return not os.path.exists(self.file) and bool(self.copies.all())
 
     def is_new(self) -> bool:

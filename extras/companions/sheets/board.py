@@ -24,7 +24,11 @@ SIZE_OF_SEVERAL = SIZES[-1]
 MOST_COLUMNS = 6
 # of a row: the room that is not for names, and how many names stand side by side; an opponent's is smaller
 ROOMS = {
-    "players": (4.2, 1), "names": (6.3, 1.8), "tables": (13.0, 2), "standings": (9.8, 1), "seats": (7.6, 1),
+    "players": (4.2, 1),
+    "names": (6.3, 1.8),
+    "tables": (13.0, 2),
+    "standings": (9.8, 1),
+    "seats": (7.6, 1),
     "final": (8.6, 1),
 }
 # and for the record beside a name, and for percentages, which are as large as names or are left out
@@ -138,7 +142,9 @@ def layout_of_several(rows: list[Names], part: Part, height: float) -> Layout:
     layouts = [Layout(SIZE_OF_SEVERAL, it, has_shares, height=height) for it in columns]
     found = [(layout, heights_in(rows, part, layout, layout.columns == 1)) for layout in layouts]
     whole = [(layout, heights) for layout, heights in found if heights]
-    layout, heights = max(whole, key=lambda it: it[0].columns / sum(it[1]), default=(layouts[0], [LINE + AROUND]))
+    layout, heights = max(
+        whole, key=lambda it: it[0].columns / sum(it[1]), default=(layouts[0], [LINE + AROUND])
+    )
     return replace(layout, rows=filled(heights, height_for(layout)), is_whole=False)
 
 

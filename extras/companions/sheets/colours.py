@@ -11,8 +11,20 @@ WHITE, BLACK = "#ffffff", "#000000"
 
 Colours = Dict[str, str]
 
-LIGHT: Colours = {"ink": "#14161a", "paper": "#f7f6f2", "faint": "#5a5f66", "rule": "#c9c6bd", "band": "#1d2b4f"}
-DARK: Colours = {"ink": "#f1f1ee", "paper": "#12141a", "faint": "#a6acb6", "rule": "#3f4451", "band": "#0b1226"}
+LIGHT: Colours = {
+    "ink": "#14161a",
+    "paper": "#f7f6f2",
+    "faint": "#5a5f66",
+    "rule": "#c9c6bd",
+    "band": "#1d2b4f",
+}
+DARK: Colours = {
+    "ink": "#f1f1ee",
+    "paper": "#12141a",
+    "faint": "#a6acb6",
+    "rule": "#3f4451",
+    "band": "#0b1226",
+}
 # paper is white
 PRINTED: Colours = {**LIGHT, "paper": WHITE}
 # the clock at ten minutes, and at the end

@@ -121,9 +121,7 @@ def parts_word(text: str) -> list[str]:
 
 def parser() -> argparse.ArgumentParser:
     as_it_is = argparse.RawDescriptionHelpFormatter
-    words = argparse.ArgumentParser(
-        prog=COMMAND, description=HELP, epilog=EXAMPLES, formatter_class=as_it_is
-    )
+    words = argparse.ArgumentParser(prog=COMMAND, description=HELP, epilog=EXAMPLES, formatter_class=as_it_is)
     add = words.add_argument
     add("file", metavar="FILE", help="the event's file")
     add("--round", type=int, metavar="N", help="the round of the pairings and slips; without it the newest")

@@ -17,7 +17,9 @@ def room_of(letter: str) -> float:
         return 0.0
     if unicodedata.east_asian_width(letter) in "WF" or ord(letter) > 0xFFFF:
         return 1.25
-    return next((room for letters, room in ROOMS.items() if letter in letters), 0.82 if letter.isupper() else 0.65)
+    return next(
+        (room for letters, room in ROOMS.items() if letter in letters), 0.82 if letter.isupper() else 0.65
+    )
 
 
 @lru_cache(maxsize=4096)
