@@ -2,9 +2,13 @@
 import os
 import re
 import subprocess
+import sys
 import time
 
 TOP = os.path.dirname(os.path.dirname(os.path.abspath(__file__)))
+# what is installed is imported by its own name: event_companions, second_reading
+if f"{TOP}/companions" not in sys.path:
+    sys.path.insert(0, f"{TOP}/companions")
 
 
 def version():

@@ -20,7 +20,7 @@ from scripts.clients.random_evenings import laid
 from scripts.clients.serving import Serving
 from scripts.clients.sheets import BROWSERS, Sheets
 from scripts.clients.waiting import comes
-from scripts.models.plain_event import Event
+from second_reading.plain_event import Event
 
 # helpers in which an `assert` is a check too
 pytest.register_assert_rewrite("scripts.clients.prompt", "scripts.clients.phone_rooms")
@@ -164,27 +164,27 @@ def is_removed(folder):
 
 
 @pytest.fixture(scope="session")
-def extras():
+def companions():
     """The folder of the companions."""
-    return f"{TOP}/extras"
+    return f"{TOP}/companions"
 
 
 @pytest.fixture
-def prompt(request, program, extras):
+def prompt(request, program, companions):
     """The scorekeeper's prompt, by a pipe or in a terminal of its own. What still runs at the end is killed."""
     # not at the head: they have to be imported once their checks are counted
     from scripts.clients.inside import InsidePrompt
     from scripts.clients.prompt import Prompt
 
     begun = InsidePrompt if is_inside(request) else Prompt
-    with begun(program.path, f"{extras}/event-desk") as it:
+    with begun(program.path, f"{companions}/bin/event-desk") as it:
         yield it
 
 
 @pytest.fixture
-def sheets(program, extras, room):
+def sheets(program, companions, room):
     """The sheets and the board of events in the room."""
-    return Sheets(program.path, extras, room)
+    return Sheets(program.path, companions, room)
 
 
 @pytest.fixture(scope="session")

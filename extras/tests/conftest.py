@@ -1,5 +1,5 @@
 """Unit tests of what is pure in the companions: no program is built or called. Expected values come from the
-plain readings in `scripts/models`, or from the documents.
+plain readings in `companions/second_reading` and `scripts/models`, or from the documents.
 """
 import os
 import random
@@ -9,8 +9,9 @@ import time
 
 import pytest
 
-EXTRAS = os.path.dirname(os.path.dirname(os.path.abspath(__file__)))
-sys.path[:0] = [EXTRAS, os.path.dirname(EXTRAS)]
+TOP = os.path.dirname(os.path.dirname(os.path.dirname(os.path.abspath(__file__))))
+COMPANIONS = f"{TOP}/companions"
+sys.path[:0] = [COMPANIONS, TOP]
 
 
 def left_out(skipped):

@@ -1,8 +1,8 @@
 """How large the letters of a board are."""
 from dataclasses import replace
 
-from companions.lists import Player
-from companions.sheets.board import (
+from event_companions.lists import Player
+from event_companions.sheets.board import (
     AROUND,
     FOOT,
     HEIGHT,
@@ -16,8 +16,8 @@ from companions.sheets.board import (
     layout_of,
     lines_in,
 )
-from companions.sheets.parts import Part, name_rows
-from companions.sheets.widths import width_of
+from event_companions.sheets.parts import Part, name_rows
+from event_companions.sheets.widths import width_of
 
 
 def by_name(names):

@@ -6,8 +6,8 @@ import os
 import stat
 
 import pytest
-from companions.arguments import address_word
-from companions.codes import (
+from event_companions.arguments import address_word
+from event_companions.codes import (
     FIRST_SEAT,
     SECOND_SEAT,
     TABLE,
@@ -18,9 +18,9 @@ from companions.codes import (
     secret_for,
     shown_code,
 )
-from companions.lists import Match, Player
-from companions.program import Declined
-from companions.score import Score
+from event_companions.lists import Match, Player
+from event_companions.program import Declined
+from event_companions.score import Score
 
 AT = "http://192.168.1.10:8080"
 MATCH = Match(17, 4, 2)

@@ -1,6 +1,6 @@
-from companions.doubts import Doubt, Doubts, with_doubts
-from companions.lists import Match
-from companions.score import Score
+from event_companions.doubts import Doubt, Doubts, with_doubts
+from event_companions.lists import Match
+from event_companions.score import Score
 
 ROUNDS = [
     [Match(1, 4, 2, Score(2, 0)), Match(2, 1, 3, Score(2, 1))],

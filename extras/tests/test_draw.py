@@ -4,7 +4,7 @@ import random
 
 import pytest
 
-from companions.draw import (
+from event_companions.draw import (
     BEFORE_THE_FIRST,
     DrawText,
     Lists,

@@ -6,18 +6,18 @@ import pytest
 
 pytest.importorskip("jinja2")
 
-from companions.draw import BEFORE_THE_FIRST, Lists, rule_of, text_of
-from companions.draws import Draws, Kept
-from companions.event import Event
-from companions.sheets.page import page_of, parts_of_board
-from companions.sheets.parts import part_of
-from companions.sheets.squares import MOST_BYTES, square_of
+from test_phone_pages import Room
+from event_companions.draw import BEFORE_THE_FIRST, Lists, rule_of, text_of
+from event_companions.draws import Draws, Kept
+from event_companions.event import Event
+from event_companions.sheets.page import page_of, parts_of_board
+from event_companions.sheets.parts import part_of
+from event_companions.sheets.squares import MOST_BYTES, square_of
 from from_model import FromModel
 from scripts.clients.drawn_evenings import begun, text_bytes
-from scripts.models.plain_csv import players_rows, results_rows, written
-from scripts.models.plain_draw import key_of
 from scripts.models.plain_page import Page
-from test_phone_pages import Room
+from second_reading.plain_csv import players_rows, results_rows, written
+from second_reading.plain_draw import key_of
 
 SEVEN = [f"P{number}" for number in range(1, 8)]
 NUMBER = "3 8 11 17"

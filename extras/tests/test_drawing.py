@@ -1,8 +1,8 @@
 """The bracket as it is drawn, beside the stages of the plain reading."""
 import pytest
-from companions.event import Event
-from companions.languages import say_in
-from companions.sheets.bracket import Tree, lines_for
+from event_companions.event import Event
+from event_companions.languages import say_in
+from event_companions.sheets.bracket import Tree, lines_for
 from from_model import FromModel
 from scripts.clients.random_evenings import ENDED, IN_PLAYOFF, evening
 from scripts.models.plain_page import bracket_due

@@ -3,13 +3,13 @@ import csv
 import io
 
 import pytest
-from companions.event import Event
-from companions.exports import final_csv, final_ranking, playoff_csv, results_csv, standings_csv
+from event_companions.event import Event
+from event_companions.exports import final_csv, final_ranking, playoff_csv, results_csv, standings_csv
 from from_model import FromModel
 from scripts.clients.random_evenings import ENDED, IN_PLAYOFF, evening
-from scripts.models.plain_event import Event as Played
-from scripts.models.plain_event import winner
 from scripts.models.plain_page import final_rows, standings_due
+from second_reading.plain_event import Event as Played
+from second_reading.plain_event import winner
 
 
 def rows(text):

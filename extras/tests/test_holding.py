@@ -4,10 +4,10 @@ import sqlite3
 import threading
 
 import pytest
-from companions.copies import Copies, Copy
-from companions.holding import held_by_nobody
-from companions.program import Declined
-from companions.turn import Turn
+from event_companions.copies import Copies, Copy
+from event_companions.holding import held_by_nobody
+from event_companions.program import Declined
+from event_companions.turn import Turn
 
 
 @pytest.fixture

@@ -2,13 +2,13 @@
 import os
 
 import pytest
-from companions.codes import Secret, keep_secret, kept_secret, path_of
-from companions.event import Event
-from companions.phones.cache import EventCache
-from companions.phones.kept_codes import KeptCodes, locked, must_be_alone
-from companions.program import Declined
+from event_companions.codes import Secret, keep_secret, kept_secret, path_of
+from event_companions.event import Event
+from event_companions.phones.cache import EventCache
+from event_companions.phones.kept_codes import KeptCodes, locked, must_be_alone
+from event_companions.program import Declined
 from from_model import FromModel
-from scripts.models.plain_event import Event as Played
+from second_reading.plain_event import Event as Played
 
 SECRET = Secret("http://192.168.1.10:8080", bytes(32))
 

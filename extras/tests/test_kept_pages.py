@@ -2,7 +2,7 @@
 import gzip
 import threading
 
-from companions.phones.kept_pages import KeptPages, Shown
+from event_companions.phones.kept_pages import KeptPages, Shown
 
 
 class Lists:

@@ -2,10 +2,10 @@
 import os
 import stat
 
-from companions.checking import differing_tables
-from companions.keys import Keys
-from companions.lists import Match
-from companions.score import Score
+from event_companions.checking import differing_tables
+from event_companions.keys import Keys
+from event_companions.lists import Match
+from event_companions.score import Score
 
 ONE, OTHER, THIRD = "ab" * 32, "cd" * 32, "0F" * 32
 

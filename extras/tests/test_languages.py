@@ -5,8 +5,8 @@ import string
 import sys
 
 import pytest
-from companions.languages import DEFAULT, FOLDER, LANGUAGES, TABLES, language_for, missing_in
-from conftest import EXTRAS
+from conftest import COMPANIONS
+from event_companions.languages import DEFAULT, FOLDER, LANGUAGES, TABLES, language_for, missing_in
 from scripts.package import languages
 
 
@@ -55,7 +55,7 @@ def test_the_template_says_what_is_missing(monkeypatch, capsys):
 
 
 def sources():
-    for folder, _, names in os.walk(f"{EXTRAS}/companions"):
+    for folder, _, names in os.walk(f"{COMPANIONS}/event_companions"):
         for name in names:
             if name.endswith((".py", ".html")):
                 with open(os.path.join(folder, name), encoding="utf-8") as source:

@@ -4,8 +4,8 @@ import threading
 import time
 
 import pytest
-from companions.phones.door import door_at
-from companions.phones.limits import (
+from event_companions.phones.door import door_at
+from event_companions.phones.limits import (
     ADDRESSES_OF_A_NETWORK,
     MOST_KEYS,
     Crowded,
@@ -15,7 +15,7 @@ from companions.phones.limits import (
     network_of,
     origin_of,
 )
-from companions.program import Declined
+from event_companions.program import Declined
 
 
 def test_so_many_at_once_and_then_one_in_so_many_seconds(monkeypatch):

@@ -1,12 +1,12 @@
 import pytest
-from companions.event import Progress
-from companions.program import Declined, Refusal
-from companions.prompt.desk import only
-from companions.prompt.lines import Input, minutes_in, minutes_of, numbers_in, score_in, with_score
-from companions.prompt.players import have_a_word_in_common
-from companions.prompt.rounds import word_and_minutes
-from companions.prompt.session import prompt_at, why_not_used
-from companions.prompt.texts import (
+from event_companions.event import Progress
+from event_companions.program import Declined, Refusal
+from event_companions.prompt.desk import only
+from event_companions.prompt.lines import Input, minutes_in, minutes_of, numbers_in, score_in, with_score
+from event_companions.prompt.players import have_a_word_in_common
+from event_companions.prompt.rounds import word_and_minutes
+from event_companions.prompt.session import prompt_at, why_not_used
+from event_companions.prompt.texts import (
     ALL_COMMANDS,
     BEGINNING,
     COMMANDS,
@@ -17,8 +17,8 @@ from companions.prompt.texts import (
     PLAYOFF,
     REFUSALS,
 )
-from companions.score import Score
-from companions.wording import ranges
+from event_companions.score import Score
+from event_companions.wording import ranges
 
 
 def test_numbers():

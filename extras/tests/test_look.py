@@ -3,9 +3,9 @@ import base64
 import re
 
 import pytest
-from companions.look import ACCENT, Look, look_of
-from companions.sheets.colours import DARK, LIGHT, PRINTED, palette
 from contrasts import contrast
+from event_companions.look import ACCENT, Look, look_of
+from event_companions.sheets.colours import DARK, LIGHT, PRINTED, palette
 
 PNG = b"\x89PNG\r\n\x1a\n and the rest"
 

@@ -3,8 +3,8 @@ import threading
 import time
 
 import pytest
-from companions.lists import Player
-from companions.prompt.offers import offers_of_players, offers_of_words
+from event_companions.lists import Player
+from event_companions.prompt.offers import offers_of_players, offers_of_words
 
 toolkit = pytest.importorskip("prompt_toolkit")
 
@@ -51,10 +51,10 @@ def within_seconds(is_so):
     ],
 )
 def test_the_tab_key_takes_what_the_menu_offers(typed, line):
-    from companions.prompt.menus import Menus
     from prompt_toolkit.application import create_app_session
     from prompt_toolkit.input import create_pipe_input
     from prompt_toolkit.output import DummyOutput
+    from event_companions.prompt.menus import Menus
 
     with create_pipe_input() as keys, create_app_session(input=keys, output=DummyOutput()):
         menus = Menus(offers)
@@ -75,10 +75,10 @@ def test_the_tab_key_takes_what_the_menu_offers(typed, line):
 
 def test_what_was_said_keeps_the_screen_until_something_is_typed():
     """Help of a round is 22 lines of 24, and the menu would take six of them."""
-    from companions.prompt.menus import Menus
     from prompt_toolkit.application import create_app_session
     from prompt_toolkit.input import create_pipe_input
     from prompt_toolkit.output import DummyOutput
+    from event_companions.prompt.menus import Menus
 
     with create_pipe_input() as keys, create_app_session(input=keys, output=DummyOutput()):
         menus = Menus(offers)

@@ -1,6 +1,6 @@
 import pytest
-from companions.lists import Player
-from companions.names import (
+from event_companions.lists import Player
+from event_companions.names import (
     Listed,
     all_but_the_first,
     compared,
@@ -11,7 +11,7 @@ from companions.names import (
     sort_key,
     visible,
 )
-from companions.sheets.parts import name_rows
+from event_companions.sheets.parts import name_rows
 from scripts.clients.random_evenings import FIRST_NAMES, HOSTILE
 from scripts.models.plain_page import folded, parted
 

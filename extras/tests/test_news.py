@@ -2,12 +2,12 @@
 from types import SimpleNamespace
 
 import pytest
-from companions.event import Progress
-from companions.prompt.lines import Input
-from companions.prompt.news import News
-from companions.prompt.session import SECONDS_TO_READ, Session
-from companions.reports import STORED, Report, Reports
-from companions.score import Score
+from event_companions.event import Progress
+from event_companions.prompt.lines import Input
+from event_companions.prompt.news import News
+from event_companions.prompt.session import SECONDS_TO_READ, Session
+from event_companions.reports import STORED, Report, Reports
+from event_companions.score import Score
 
 
 class Typing:
@@ -93,7 +93,7 @@ def test_a_fault_of_the_news_is_told_once_and_they_go_on(session, monkeypatch):
             raise faults.pop()
         news.is_over.set()
 
-    monkeypatch.setattr("companions.prompt.news.SECONDS_BETWEEN_NEWS", 0.001)
+    monkeypatch.setattr("event_companions.prompt.news.SECONDS_BETWEEN_NEWS", 0.001)
     monkeypatch.setattr(news, "tell", tell)
     news.go_on()
     ((_, told),) = session.lines.typing.said

@@ -2,8 +2,8 @@
 import os
 
 import pytest
-from companions.lists import Match
-from companions.notes import MOST_LETTERS, Note, Notes, note_of
+from event_companions.lists import Match
+from event_companions.notes import MOST_LETTERS, Note, Notes, note_of
 
 AT_9, AT_4 = Match(9, 1, 2), Match(4, 3, 5)
 

@@ -8,14 +8,15 @@ import pytest
 
 pytest.importorskip("jinja2")
 
-from companions.clock import Clock
-from companions.codes import Secret, shown_code
-from companions.event import Event
-from companions.languages import say_in
-from companions.look import Look
-from companions.plan import Plan
-from companions.sheets.colours import DARK, LIGHT, PRINTED
-from companions.sheets.page import (
+from markupsafe import Markup
+from event_companions.clock import Clock
+from event_companions.codes import Secret, shown_code
+from event_companions.event import Event
+from event_companions.languages import say_in
+from event_companions.look import Look
+from event_companions.plan import Plan
+from event_companions.sheets.colours import DARK, LIGHT, PRINTED
+from event_companions.sheets.page import (
     Board,
     Foot,
     Playing,
@@ -25,7 +26,7 @@ from companions.sheets.page import (
     playing_in,
     where_in,
 )
-from companions.sheets.parts import (
+from event_companions.sheets.parts import (
     DEFAULT_PARTS,
     ROOM_BESIDE_A_CODE,
     Reach,
@@ -34,11 +35,10 @@ from companions.sheets.parts import (
     stacks_of,
 )
 from from_model import FromModel
-from markupsafe import Markup
 from scripts.clients.random_evenings import COMPLETE, ENDED, ENROLLING, OPEN, STARTED, evening
-from scripts.models.plain_event import Event as Played
-from scripts.models.plain_event import winner
 from scripts.models.plain_page import Page
+from second_reading.plain_event import Event as Played
+from second_reading.plain_event import winner
 
 
 ENGLISH = say_in("en")

@@ -12,24 +12,24 @@ import pytest
 
 pytest.importorskip("jinja2")
 
-from companions.clock import Clock, keep_clock
-from companions.codes import Secret, keep_secret, shown_code
-from companions.event import Event
-from companions.languages import LANGUAGES
-from companions.phones import site as module
-from companions.phones.asked import hosts_of
-from companions.phones.at_table import drops_in
-from companions.phones.cache import EventCache
-from companions.phones.desk_page import Desk
-from companions.phones.pages import style
-from companions.phones.score_queue import Answer, NotNow
-from companions.phones.site import Site, outcome_of
-from companions.notes import Notes
-from companions.plan import Plan
-from companions.reports import OTHER, STORED, WRONG, Reports, judge_call
-from companions.score import Score
-from companions.sheets.making import Wanted, page_maker
 from contrasts import contrast
+from event_companions.clock import Clock, keep_clock
+from event_companions.codes import Secret, keep_secret, shown_code
+from event_companions.event import Event
+from event_companions.languages import LANGUAGES
+from event_companions.notes import Notes
+from event_companions.phones import site as module
+from event_companions.phones.asked import hosts_of
+from event_companions.phones.at_table import drops_in
+from event_companions.phones.cache import EventCache
+from event_companions.phones.desk_page import Desk
+from event_companions.phones.pages import style
+from event_companions.phones.score_queue import Answer, NotNow
+from event_companions.phones.site import Site, outcome_of
+from event_companions.plan import Plan
+from event_companions.reports import OTHER, STORED, WRONG, Reports, judge_call
+from event_companions.score import Score
+from event_companions.sheets.making import Wanted, page_maker
 from from_model import FromModel
 from scripts.clients.random_evenings import (
     COMPLETE,
@@ -42,7 +42,7 @@ from scripts.clients.random_evenings import (
     evening,
 )
 from scripts.models import plain_page
-from scripts.models.plain_event import Event as Played
+from second_reading.plain_event import Event as Played
 
 AT, HOST = "http://192.168.1.10:8080", "192.168.1.10:8080"
 LIFETIMES = {"meta", "link", "input", "br"}
@@ -335,7 +335,7 @@ def test_the_board_is_the_page_of_the_sheets(room):
 def test_the_event_s_name_is_asked_once_for_each_picture(room, monkeypatch):
     asked = []
     plan = Plan("Friday <Night>", 3, 0)
-    monkeypatch.setattr("companions.title.plan_of", lambda *_: asked.append(1) or plan)
+    monkeypatch.setattr("event_companions.title.plan_of", lambda *_: asked.append(1) or plan)
     room.cache.title = None
     room.cache.keep(*room.cache.read_all(Event(FromModel(room.event), room.file)))
     for target in ("/", "/pairings", "/standings", "/board", room.target(1)):
@@ -735,7 +735,7 @@ def test_what_waits_has_to_be_on_the_disk(both, monkeypatch):
 
 
 def test_reports_that_are_full_are_told_apart_from_a_full_disk(both, monkeypatch):
-    monkeypatch.setattr("companions.reports.MOST_BYTES", 10)
+    monkeypatch.setattr("event_companions.reports.MOST_BYTES", 10)
     assert both.hand_in(1, "2-0-0", seat=1).status == 503
     path = both.reports.path
     assert f"It is full. Move it away: mv {path} {path}.full" in check_page(both.desk_page()).root.text()
@@ -1171,7 +1171,7 @@ def test_what_is_refused_is_limited_and_made_once(room, monkeypatch):
     refused = {"HTTP_HOST": "evil.example"}
     first = room.ask("GET", "/", **refused)
     room.site.told(429, "en", "slower")
-    monkeypatch.setattr("companions.phones.asked.rendered", lambda *_, **__: 1 / 0)
+    monkeypatch.setattr("event_companions.phones.asked.rendered", lambda *_, **__: 1 / 0)
     assert [room.ask("GET", "/", **refused).status for _ in range(125)] == [421] * 119 + [429] * 6
     assert room.ask("GET", "/", REMOTE_ADDR="192.168.1.78", **refused).text == first.text
     # a right code is counted by its table

@@ -3,8 +3,8 @@ import os
 import sqlite3
 
 import pytest
-from companions.plan import Plan, plan_of
-from companions.turn import Turn
+from event_companions.plan import Plan, plan_of
+from event_companions.turn import Turn
 
 
 def test_the_plan_is_read_from_a_copy(tmp_path):

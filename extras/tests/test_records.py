@@ -1,12 +1,12 @@
 """What players have won, lost and drawn, beside the plain reading."""
 import pytest
 
-from companions.event import Event
-from companions.records import Record, records_of
+from event_companions.event import Event
+from event_companions.records import Record, records_of
 from from_model import FromModel
 from scripts.clients.random_evenings import COMPLETE, OPEN, evening
-from scripts.models.plain_event import Event as Plain
 from scripts.models.plain_page import record_due
+from second_reading.plain_event import Event as Plain
 
 
 def test_by_hand():

@@ -4,10 +4,10 @@ import json
 import os
 
 import pytest
-from companions import reports as module
-from companions.lists import Match, Player
-from companions.prompt.news import lines_of
-from companions.reports import (
+from event_companions import reports as module
+from event_companions.lists import Match, Player
+from event_companions.prompt.news import lines_of
+from event_companions.reports import (
     CALLS,
     HOME,
     NO_SCORE,
@@ -31,7 +31,7 @@ from companions.reports import (
     words_to_mend,
     words_to_store,
 )
-from companions.score import Score
+from event_companions.score import Score
 
 STORED_AT_9 = Match(9, 1, 2, Score(2, 1))
 OPEN_AT_9 = Match(9, 1, 2)

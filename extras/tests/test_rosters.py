@@ -1,8 +1,8 @@
 import csv
 
 import pytest
-from companions.program import Declined
-from companions.rosters import path_and_codec, read_list, roster_of, tidy, written_list
+from event_companions.program import Declined
+from event_companions.rosters import path_and_codec, read_list, roster_of, tidy, written_list
 from scripts.clients.random_evenings import HOSTILE
 
 # as COMMANDS shows them

@@ -2,9 +2,9 @@
 import os
 
 import pytest
-from companions.copies import Copies
-from companions.second_place import SecondPlace
-from companions.turn import Turn
+from event_companions.copies import Copies
+from event_companions.second_place import SecondPlace
+from event_companions.turn import Turn
 
 
 @pytest.fixture

@@ -7,8 +7,13 @@ import pytest
 
 pytest.importorskip("waitress")
 
-from companions.phones.door import NO_LIMIT, door_at
-from companions.phones.serving import CONNECTIONS_KEPT_FREE, SECONDS_OF_A_CONNECTION, is_silent, server_of
+from event_companions.phones.door import NO_LIMIT, door_at
+from event_companions.phones.serving import (
+    CONNECTIONS_KEPT_FREE,
+    SECONDS_OF_A_CONNECTION,
+    is_silent,
+    server_of,
+)
 
 PATIENCE = 60
 REQUEST = b"GET / HTTP/1.1\r\nHost: a\r\n\r\n"

@@ -3,8 +3,8 @@ import os
 import stat
 
 import pytest
-from companions.program import Declined
-from companions.sheets.files import must_be_for_pages, page_beside, write_page
+from event_companions.program import Declined
+from event_companions.sheets.files import must_be_for_pages, page_beside, write_page
 
 
 def read(path):

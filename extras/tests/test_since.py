@@ -1,10 +1,10 @@
 """What came since a copy. An event is read from the texts of the plain reading."""
-from companions.event import Event
-from companions.draw import rule_of
-from companions.draws import Draws, Kept
-from companions.prompt.since import Missing, came_since, counted_since, left_in, missing_since
+from event_companions.draw import rule_of
+from event_companions.draws import Draws, Kept
+from event_companions.event import Event
+from event_companions.prompt.since import Missing, came_since, counted_since, left_in, missing_since
 from from_model import FromModel
-from scripts.models.plain_event import Event as PlainEvent
+from second_reading.plain_event import Event as PlainEvent
 
 NOT_DRAWN = Draws("/nowhere/e.event")
 

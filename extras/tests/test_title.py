@@ -3,8 +3,8 @@ import os
 import sqlite3
 
 import pytest
-from companions.title import event_name, file_name, keep_title, title_of
-from companions.turn import Turn
+from event_companions.title import event_name, file_name, keep_title, title_of
+from event_companions.turn import Turn
 
 
 def made(path, name):

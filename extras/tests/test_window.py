@@ -7,11 +7,11 @@ import pytest
 pytest.importorskip("jinja2")
 pytest.importorskip("waitress")
 
-from companions.event import Progress
-from companions.phones.asked import Settled
-from companions.window.clicks import Clicks, Entry, Question, parted, yes_or_no
-from companions.window.site import Window, list_of, policy, text_of
-from companions.window.views import View
+from event_companions.event import Progress
+from event_companions.phones.asked import Settled
+from event_companions.window.clicks import Clicks, Entry, Question, parted, yes_or_no
+from event_companions.window.site import Window, list_of, policy, text_of
+from event_companions.window.views import View
 
 
 def clicks():

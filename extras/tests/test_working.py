@@ -3,12 +3,12 @@ from dataclasses import replace
 
 import pytest
 
-from companions.event import Event
-from companions.prompt.players import working_lines
-from companions.working import percent, share_shown, working_of
+from event_companions.event import Event
+from event_companions.prompt.players import working_lines
+from event_companions.working import percent, share_shown, working_of
 from from_model import FromModel
 from scripts.clients.random_evenings import COMPLETE, OPEN, evening
-from scripts.models.plain_event import Event as Plain
+from second_reading.plain_event import Event as Plain
 
 
 def event_of(plain):

@@ -12,8 +12,8 @@ import time
 
 from scripts import TOP
 from scripts.clients.serving import Serving, received, sent_whole
-from scripts.models.plain_event import Event
 from scripts.words import PROGRAM, Word, given_by
+from second_reading.plain_event import Event
 
 PLAYERS, ROUNDS = 512, 9
 SCORES = [(2, 0, 0), (1, 2, 0), (2, 1, 0), (0, 2, 0), (1, 1, 1)]

@@ -2,10 +2,10 @@
 import copy
 
 from scripts.clients.random_evenings import is_of_swiss, lawful, names_for, report_round
-from scripts.models.plain_csv import players_rows, results_rows, written
-from scripts.models.plain_draw import FIRST, due, event_of, key_of, sha256, tables_due
-from scripts.models.plain_event import Event
 from scripts.models.random_play import random_score
+from second_reading.plain_csv import players_rows, results_rows, written
+from second_reading.plain_draw import FIRST, due, event_of, key_of, sha256, tables_due
+from second_reading.plain_event import Event
 
 
 def text_bytes(event, number, drawing, after, drawn, by="-", instead="-"):

@@ -5,9 +5,9 @@ import sqlite3
 import tempfile
 
 from scripts.clients.program import Program
-from scripts.models.plain_event import Event
-from scripts.models.plain_file import PLAYERS, tables_of
 from scripts.models.schema import TABLES
+from second_reading.plain_event import Event
+from second_reading.plain_file import PLAYERS, tables_of
 
 STATUSES = {24: 4, 25: 3, 26: 3}
 

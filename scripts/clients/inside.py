@@ -39,10 +39,10 @@ class InsidePrompt(Prompt):
 
     def __init__(self, program, desk):
         super().__init__(program, desk)
-        sys.path.insert(0, os.path.dirname(desk))
+        sys.path.insert(0, os.path.dirname(os.path.dirname(desk)))
 
     def typed(self, file, *lines, by=None):
-        from companions.prompt.main import main
+        from event_companions.prompt.main import main
 
         with streams(lines) as (said, errors):
             status = main([file, "--program", by or self.program])
@@ -54,8 +54,8 @@ class InsidePrompt(Prompt):
 
     def is_killed(self, file, lines, stop, begins):
         """Whether it was killed before its call of this number, counted from this method of `Drawing` on."""
-        from companions.prompt.drawing import Drawing
-        from companions.prompt.main import main
+        from event_companions.prompt.drawing import Drawing
+        from event_companions.prompt.main import main
 
         def body():
             method = getattr(Drawing, begins)
@@ -75,9 +75,9 @@ class StayingPrompt:
     """One prompt to which lines are typed as they come."""
 
     def __init__(self, program, file):
-        from companions.program import Source, ready
-        from companions.prompt.desk import Desk
-        from companions.turn import Turn
+        from event_companions.program import Source, ready
+        from event_companions.prompt.desk import Desk
+        from event_companions.turn import Turn
 
         with streams(()) as (said, _):
             self.desk = Desk(Source(ready(program), file, Turn(file, makes_file=True)), file)
@@ -100,7 +100,7 @@ def count(stop):
     import shutil
     import subprocess
 
-    import companions.copies
+    import event_companions.copies
 
     left = [stop]
 
@@ -118,7 +118,7 @@ def count(stop):
         (shutil, "copyfileobj"),
         (subprocess, "run"),
         (builtins, "open"),
-        (companions.copies, "exchange"),
+        (event_companions.copies, "exchange"),
     )
     for place, names in calls:
         for name in names.split():
@@ -142,11 +142,11 @@ def ends_killed(body):
     return status == KILLED
 
 
-def exchange_is_killed(extras, file, new, stop):
+def exchange_is_killed(companions, file, new, stop):
     """While another event is put in the place of one."""
-    sys.path.insert(0, extras)
-    from companions.copies import Copies, Copy
-    from companions.turn import Turn
+    sys.path.insert(0, companions)
+    from event_companions.copies import Copies, Copy
+    from event_companions.turn import Turn
 
     def body():
         count(stop)

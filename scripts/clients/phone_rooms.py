@@ -1,4 +1,4 @@
-"""Events whose scores come from phones: `extras/event-phones` as it serves, and what phones send. An `assert` here is a check."""
+"""Events whose scores come from phones: `companions/bin/event-phones` as it serves, and what phones send. An `assert` here is a check."""
 import contextlib
 import csv
 import http.client
@@ -18,14 +18,12 @@ from scripts.clients.program import Program
 from scripts.clients.serving import free_port
 from scripts.clients.waiting import PATIENCE
 
-sys.path.insert(0, f"{TOP}/extras")
+from event_companions.codes import keep_secret, kept_secret, secret_for
+from event_companions.lists import players_of, rounds_of
+from event_companions.reports import TIME, Report, Reports
+from event_companions.score import Score
 
-from companions.codes import keep_secret, kept_secret, secret_for
-from companions.lists import players_of, rounds_of
-from companions.reports import TIME, Report, Reports
-from companions.score import Score
-
-PHONES = f"{TOP}/extras/event-phones"
+PHONES = f"{TOP}/companions/bin/event-phones"
 # on the slips of an event that nobody serves
 AT = "http://192.168.1.10:8080"
 PYTHON = sys.executable, "-B"

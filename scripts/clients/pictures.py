@@ -17,24 +17,24 @@ import time
 
 from scripts import TOP
 
-sys.path[:0] = [f"{TOP}/extras", f"{TOP}/extras/tests"]
+sys.path.insert(0, f"{TOP}/extras/tests")
 
-from companions.clock import Clock, keep_clock  # noqa: E402
-from companions.codes import Secret, keep_secret  # noqa: E402
-from companions.event import Event  # noqa: E402
-from companions.phones.asked import hosts_of  # noqa: E402
-from companions.phones.cache import EventCache  # noqa: E402
-from companions.phones.pages import style  # noqa: E402
-from companions.phones.site import Site  # noqa: E402
-from companions.plan import Plan  # noqa: E402
-from companions.reports import Reports  # noqa: E402
-from companions.shown_names import ShownName, ShownNames  # noqa: E402
-from companions.sheets.making import Wanted, page_maker  # noqa: E402
-from companions.title import keep_title  # noqa: E402
+from event_companions.clock import Clock, keep_clock  # noqa: E402
+from event_companions.codes import Secret, keep_secret  # noqa: E402
+from event_companions.event import Event  # noqa: E402
+from event_companions.phones.asked import hosts_of  # noqa: E402
+from event_companions.phones.cache import EventCache  # noqa: E402
+from event_companions.phones.pages import style  # noqa: E402
+from event_companions.phones.site import Site  # noqa: E402
+from event_companions.plan import Plan  # noqa: E402
+from event_companions.reports import Reports  # noqa: E402
+from event_companions.sheets.making import Wanted, page_maker  # noqa: E402
+from event_companions.shown_names import ShownName, ShownNames  # noqa: E402
+from event_companions.title import keep_title  # noqa: E402
 from from_model import FromModel  # noqa: E402
 from scripts.clients.random_evenings import play_bracket, report_round  # noqa: E402
 from scripts.clients.sheets import BROWSERS  # noqa: E402
-from scripts.models.plain_event import Event as Played  # noqa: E402
+from second_reading.plain_event import Event as Played  # noqa: E402
 
 SCREENS = (1280, 720), (1920, 1080), (3840, 2160)
 COUNTS = 8, 37, 128, 512

@@ -1,4 +1,4 @@
-"""The scorekeeper's prompt, `extras/event-desk`, over the program as it is built: by a pipe, and in a terminal of its own; what is said, beside the plain
+"""The scorekeeper's prompt, `companions/bin/event-desk`, over the program as it is built: by a pipe, and in a terminal of its own; what is said, beside the plain
 reading of the rules; and a whole evening. An `assert` here is a check.
 """
 import contextlib
@@ -14,7 +14,7 @@ import time
 
 from scripts.clients.event_files import rows_alone, rows_of
 from scripts.clients.waiting import PATIENCE
-from scripts.models.plain_event import ENROLLING, FINISHED, PLAYOFF, SWISS, Event
+from second_reading.plain_event import ENROLLING, FINISHED, PLAYOFF, SWISS, Event
 
 # before the first round, in a round, and in the playoff
 PROMPTS, QUESTION = (b"desk> ", *(b"r%d> " % number for number in range(1, 13)), b"playoff> "), b"(y or n) "
@@ -23,9 +23,9 @@ PYTHON = sys.executable, "-S", "-B"
 # the prompt, at which nobody has read what came in above a line until the next one was answered, however long a busy machine takes
 SLOW_READER = """
 import sys
-sys.path.insert(0, {extras!r})
-import companions.prompt.session as session
-from companions.prompt.main import main
+sys.path.insert(0, {companions!r})
+import event_companions.prompt.session as session
+from event_companions.prompt.main import main
 session.SECONDS_TO_READ = 1e9
 sys.exit(main())
 """
@@ -451,7 +451,8 @@ class Prompt:
             it.kill()
 
     def words(self, file, by=None, python=PYTHON, reads_slowly=False):
-        desk = ["-c", SLOW_READER.format(extras=os.path.dirname(self.desk))] if reads_slowly else [self.desk]
+        companions = os.path.dirname(os.path.dirname(self.desk))
+        desk = ["-c", SLOW_READER.format(companions=companions)] if reads_slowly else [self.desk]
         return [*python, *desk, file, "--program", by or self.program]
 
     def typed(self, file, *lines, by=None, **how):

@@ -5,9 +5,9 @@ import sqlite3
 
 from scripts.clients.event_files import rows_of
 from scripts.clients.program import Program
-from scripts.models.plain_event import FINISHED, PLAYOFF, Event
-from scripts.models.plain_file import tables_of
 from scripts.models.random_play import random_playoff_score, random_score
+from second_reading.plain_event import FINISHED, PLAYOFF, Event
+from second_reading.plain_file import tables_of
 
 # how far on an event is
 ENROLLING, STARTED, OPEN, COMPLETE, IN_PLAYOFF, ENDED = WAYS = (

@@ -1,4 +1,4 @@
-"""The sheets and the board, `extras/event-sheets`, over the program as it is built."""
+"""The sheets and the board, `companions/bin/event-sheets`, over the program as it is built."""
 import os
 import pty
 import re
@@ -22,8 +22,8 @@ def timeless(text):
 class Sheets:
     """The command line, in the folder of an event."""
 
-    def __init__(self, program, extras, room):
-        self.program, self.path, self.room = program, f"{extras}/event-sheets", room
+    def __init__(self, program, companions, room):
+        self.program, self.path, self.room = program, f"{companions}/bin/event-sheets", room
 
     def words(self, *words, python=(sys.executable, "-B")):
         return [*python, self.path, "--program", self.program, *words]

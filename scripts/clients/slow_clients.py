@@ -24,9 +24,9 @@ from scripts.clients.event_files import copied, due, rows_alone, rows_of, rows_o
 from scripts.clients.program import Program
 from scripts.clients.serving import Serving, received, sent_to_the_end, sent_whole, served
 from scripts.clients.tally import check, end, left_out
-from scripts.models.plain_event import Event
 from scripts.models.plain_http import served as served_plainly
 from scripts.words import PROGRAM, given_by
+from second_reading.plain_event import Event
 
 # the seconds that a read, a request, an answer and a whole connection may take, and those in which it is read on after its answer
 READ, REQUEST, WRITE, WHOLE, REST = 1, 5, 10, 30, 0.5

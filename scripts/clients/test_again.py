@@ -9,8 +9,8 @@ import pytest
 from scripts.clients.event_files import make_old, rows_alone, rows_of
 from scripts.clients.inside import exchange_is_killed
 from scripts.clients.prompt import check_said, match_shown, unfilled
-from scripts.models.plain_event import Event
-from scripts.models.plain_file import read
+from second_reading.plain_event import Event
+from second_reading.plain_file import read
 
 NAMES = tuple(f"P{number}" for number in range(1, 9))
 
@@ -451,7 +451,7 @@ def test_scores_of_the_playoff_are_taken_back(prompt, program, played):
 # ---- killed in the middle of the exchange
 
 
-def test_killed_at_each_call_of_the_exchange(program, prompt, played, room, extras):
+def test_killed_at_each_call_of_the_exchange(program, prompt, played, room, companions):
     """FILE is the old event or the new one, whole, and the next exchange works."""
     os.mkdir(f"{room}/new")
     new = f"{room}/new/e.event"
@@ -462,7 +462,7 @@ def test_killed_at_each_call_of_the_exchange(program, prompt, played, room, extr
         stop += 1
         file = f"{room}/{stop}.event"
         shutil.copy(played, file)
-        was_killed = exchange_is_killed(extras, file, new, stop)
+        was_killed = exchange_is_killed(companions, file, new, stop)
         rows = rows_alone(file)
         assert rows in (old_rows, new_rows), f"killed before call {stop}"
         assert program.run("players", file)[0] == 0, f"killed before call {stop}, it opens"

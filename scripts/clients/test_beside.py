@@ -11,8 +11,8 @@ import time
 import pytest
 
 from scripts.clients.event_files import copied, due, make_old, rows_left, rows_of, rows_read, words_of
-from scripts.models.plain_file import PLAYERS, tables_of
 from scripts.models.random_play import random_event, version_of
+from second_reading.plain_file import PLAYERS, tables_of
 
 CASES = {"number": (100, 1_000)}
 

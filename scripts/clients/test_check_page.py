@@ -15,8 +15,8 @@ from scripts.clients.random_evenings import HOSTILE
 from scripts.clients.sheets import BROWSERS
 from scripts.clients.taps import Browser, Phone
 from scripts.clients.waiting import PATIENCE, comes
-from scripts.models import plain_draw
-from scripts.models.plain_event import printed
+from second_reading import plain_draw
+from second_reading.plain_event import printed
 
 CASES = {"case": (6, 300)}
 CHANGES = 10_000

@@ -1,4 +1,4 @@
-"""The man page and the completions in `extras`, held against what `--help` of the program as it is built lists: the subcommands, and the words of
+"""The man page and the completions in `companions`, held against what `--help` of the program as it is built lists: the subcommands, and the words of
 each. The completion for bash is run.
 """
 import re
@@ -27,17 +27,17 @@ def kinds(program):
 
 
 @pytest.fixture
-def text_of(extras):
-    return lambda path: open(f"{extras}/{path}", encoding="utf-8").read()
+def text_of(companions):
+    return lambda path: open(f"{companions}/{path}", encoding="utf-8").read()
 
 
 @pytest.fixture
-def completed(extras):
+def completed(companions):
     """What bash offers for the last word."""
 
     def complete(*words):
         script = '. "$1"; shift; COMP_WORDS=(event_reporter "$@"); COMP_CWORD=$#; _event_reporter; printf "%s\\n" "${COMPREPLY[@]}"'
-        words = ["bash", "-c", script, "bash", f"{extras}/completions/event_reporter.bash", *words]
+        words = ["bash", "-c", script, "bash", f"{companions}/completions/event_reporter.bash", *words]
         return subprocess.run(
             words, capture_output=True, text=True, timeout=PATIENCE, check=True
         ).stdout.split()
@@ -99,14 +99,14 @@ def test_fish(listed, kinds, text_of):
     ) == [" ".join(kinds)]
 
 
-def test_bash(completed, names, kinds, extras):
+def test_bash(completed, names, kinds, companions):
     assert completed("") == [*names, "--help", "--version"]
     assert completed("st") == ["start", "standings"], "a beginning"
     assert completed("export", "friday.event", "") == kinds
-    assert completed("import", f"{extras}/completions/event_reporter.f") == [
-        f"{extras}/completions/event_reporter.fish"
+    assert completed("import", f"{companions}/completions/event_reporter.f") == [
+        f"{companions}/completions/event_reporter.fish"
     ], "a file"
-    assert completed("import", "friday.event", f"{extras}/completions/event_reporter.z") == [
-        f"{extras}/completions/event_reporter.zsh"
+    assert completed("import", "friday.event", f"{companions}/completions/event_reporter.z") == [
+        f"{companions}/completions/event_reporter.zsh"
     ], "a second one"
     assert completed("start", "friday.event", "") == [], "no more"

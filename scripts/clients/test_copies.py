@@ -12,7 +12,7 @@ import pytest
 from scripts.clients.event_files import rows_alone, rows_of
 from scripts.clients.prompt import LETTERS, check_said, keys_of, unfilled
 from scripts.clients.waiting import PATIENCE
-from scripts.models.plain_file import read
+from second_reading.plain_file import read
 
 
 def test_copies(prompt, room, started):
@@ -127,8 +127,8 @@ def played(rows):
 # the prompt, stopped right after one of the moves of `back`: that of two names in one step is one, if the system has it
 STOPPED = """
 import os, sys
-sys.path.insert(0, {extras!r})
-import companions.copies
+sys.path.insert(0, {companions!r})
+import event_companions.copies
 moves = []
 def stopping(move):
     def moved(source, target):
@@ -138,22 +138,22 @@ def stopping(move):
             os._exit(9)
         return answer
     return moved
-companions.copies.move = stopping(companions.copies.move)
-companions.copies.exchange = stopping(companions.copies.exchange) if {in_one_step} else lambda *_: False
-from companions.prompt.main import main
+event_companions.copies.move = stopping(event_companions.copies.move)
+event_companions.copies.exchange = stopping(event_companions.copies.exchange) if {in_one_step} else lambda *_: False
+from event_companions.prompt.main import main
 main()
 """
 
 
 @pytest.mark.parametrize("stop, in_one_step", [(1, False), (2, False), (3, False), (1, True)])
-def test_back_stopped(prompt, program, room, started, extras, stop, in_one_step):
+def test_back_stopped(prompt, program, room, started, companions, stop, in_one_step):
     """Stopped after each of the moves of `back`: nothing is lost, `init` is declined if the file is gone, and a second `back` ends it. If two names are
     exchanged in one step, the file is the old event or the new one at each moment.
     """
     event, file = started("Ana", "Bo", "Cy", "Di")
     prompt.said(file, "pair", "1 2 0")
     before = rows_alone(file)
-    code = STOPPED.format(extras=extras, stop=stop, in_one_step=in_one_step)
+    code = STOPPED.format(companions=companions, stop=stop, in_one_step=in_one_step)
     words = [sys.executable, "-S", "-B", "-c", code, file, "--program", program.path]
     ran = subprocess.run(words, input=b"back 1\ny\n", capture_output=True, timeout=PATIENCE, env=LETTERS)
     assert ran.returncode == 9, "back, stopped"

@@ -9,7 +9,7 @@ import pytest
 from scripts.clients.event_files import as_nobody, due, event_of_four, make_old
 from scripts.clients.program import laid
 from scripts.clients.waiting import PATIENCE
-from scripts.models.plain_csv import MOST_BYTES
+from second_reading.plain_csv import MOST_BYTES
 
 ZERO = "0" * 64
 assert MOST_BYTES == 131_072

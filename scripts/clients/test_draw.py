@@ -11,9 +11,9 @@ import pytest
 
 from scripts.clients.prompt import check_said, keys_of, unfilled
 from scripts.clients.traced import can_trace, is_killed_in, killing, system_calls
-from scripts.models import event_check
-from scripts.models.plain_event import printed
-from scripts.models.plain_file import read
+from second_reading import event_check
+from second_reading.plain_event import printed
+from second_reading.plain_file import read
 
 pytestmark = pytest.mark.inside
 SEVEN = tuple(f"P{number}" for number in range(1, 8))

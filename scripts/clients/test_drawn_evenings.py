@@ -8,10 +8,10 @@ import re
 import pytest
 
 from scripts.clients.random_evenings import is_of_swiss, lawful
-from scripts.models import event_check
-from scripts.models.plain_event import is_complete
-from scripts.models.plain_file import read
 from scripts.models.random_play import random_score
+from second_reading import event_check
+from second_reading.plain_event import is_complete
+from second_reading.plain_file import read
 
 pytestmark = pytest.mark.inside
 CASES = {"case": (1, 1000)}

@@ -12,9 +12,9 @@ from scripts.clients.drawn_evenings import begun, can_be_paired, changes, drawn_
 from scripts.clients.prompt import unfilled
 from scripts.clients.random_evenings import laid, report_round
 from scripts.clients.waiting import PATIENCE
-from scripts.models import event_check
-from scripts.models.plain_csv import players_rows, results_rows, written
-from scripts.models.plain_draw import (
+from second_reading import event_check
+from second_reading.plain_csv import players_rows, results_rows, written
+from second_reading.plain_draw import (
     FIRST,
     TOLD,
     WRONG,
@@ -474,7 +474,7 @@ def test_it_calls_nothing_and_needs_nothing_beside_the_standard_library(files, s
     """With nothing on the PATH, and without the folders of packages."""
     (path,) = files(seven)
     ran = subprocess.run(
-        [sys.executable, "-S", "-B", f"{TOP}/extras/event-check", path],
+        [sys.executable, "-S", "-B", f"{TOP}/companions/bin/event-check", path],
         capture_output=True,
         env={"PATH": "/nowhere"},
         timeout=PATIENCE,

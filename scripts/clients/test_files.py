@@ -29,13 +29,13 @@ from scripts.clients.event_files import (
     rows_alone,
     rows_of,
 )
-from scripts.clients.serving import Serving, hear_interrupts, served
 from scripts.clients.program import laid
+from scripts.clients.serving import Serving, hear_interrupts, served
 from scripts.clients.transcripts import parts_of
 from scripts.clients.waiting import PATIENCE
-from scripts.models.plain_event import Event
 from scripts.models.plain_log import committed
 from scripts.models.schema import PLAYER2
+from second_reading.plain_event import Event
 
 
 def words_of(line, file):

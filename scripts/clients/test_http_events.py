@@ -5,10 +5,10 @@ file made by SQL, and some of these are migrated.
 """
 from scripts.clients.event_files import due, make_old, rows_alone, rows_of, words_of
 from scripts.clients.serving import Serving, served
-from scripts.models.plain_event import PLAYOFF, SWISS, Event
 from scripts.models.plain_http import read_of, served as served_plainly
 from scripts.models.random_play import random_playoff_score, random_score
 from scripts.models.random_requests import each_oddity, random_request
+from second_reading.plain_event import PLAYOFF, SWISS, Event
 
 CASES = {"number": (7, 215)}
 # how many requests an event is asked at least

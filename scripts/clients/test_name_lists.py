@@ -6,8 +6,8 @@ import pytest
 from scripts.clients.program import laid
 from scripts.clients.prompt import check_said
 from scripts.clients.random_evenings import HOSTILE
-from scripts.models.plain_file import read
 from scripts.models.plain_page import parted
+from second_reading.plain_file import read
 
 
 LISTS = [

@@ -38,12 +38,12 @@ from scripts.clients.random_evenings import (
 )
 from scripts.clients.sheets import BARE
 from scripts.clients.waiting import PATIENCE
-from scripts.models.plain_file import read
 from scripts.models.plain_page import Page, standings_due
+from second_reading.plain_file import read
 
 # phone_rooms has put it on the path
-from companions.entries import Entries
-from companions.troubles import Troubles
+from event_companions.entries import Entries
+from event_companions.troubles import Troubles
 
 PAGES = pytest.mark.needs("slips with codes, and pages of phones", module="jinja2", package="python3-jinja2")
 
@@ -383,11 +383,11 @@ class Pages:
     """The pages over a file that the program reads."""
 
     def __init__(self, program, file, asks_both):
-        from companions.phones.asked import hosts_of
-        from companions.phones.cache import EventCache
-        from companions.phones.score_queue import ScoreQueue
-        from companions.phones.site import Site
-        from companions.reports import Reports
+        from event_companions.phones.asked import hosts_of
+        from event_companions.phones.cache import EventCache
+        from event_companions.phones.score_queue import ScoreQueue
+        from event_companions.phones.site import Site
+        from event_companions.reports import Reports
 
         self.file = file
         self.secret, self.cache, self.reports = (
@@ -544,7 +544,7 @@ def test_lost(program, room, pages_over, stand_in):
 @PAGES
 def test_held(program, room, pages_over, serve, monkeypatch):
     """While `serve` holds the file a phone shows that nothing is handed in; then it goes on."""
-    from companions.phones import score_queue
+    from event_companions.phones import score_queue
 
     file = made(program.path, f"{room}/e.event")
     pages = pages_over(file)

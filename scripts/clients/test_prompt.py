@@ -11,7 +11,7 @@ import pytest
 from scripts import TOP
 from scripts.clients.prompt import LETTERS, TypedEvening, check_said
 from scripts.clients.waiting import PATIENCE
-from scripts.models.plain_file import read
+from second_reading.plain_file import read
 
 # the evening that README shows, whose lines are typed behind a prompt
 EVENING = re.compile(r"(?<=^```\n\$ event-desk friday\.event\n)(.*?)(?=^```)", re.M | re.S)
@@ -163,7 +163,7 @@ class ShownEvening:
 
 
 @pytest.mark.needs("the evening of README", module="jinja2", package="python3-jinja2")
-def test_the_evening_of_the_readme(prompt, room, extras):
+def test_the_evening_of_the_readme(prompt, room, companions):
     """What is typed there, and what it is answered, to the champion and to a second reading of it all."""
     with open(f"{TOP}/README.md", encoding="utf-8") as readme:
         lines, check = EVENING.search(readme.read())[1].split("$ event-check friday.event\n..\n")
@@ -175,7 +175,7 @@ def test_the_evening_of_the_readme(prompt, room, extras):
     assert (evening.line, evening.typed) == ("quit", 14)
     assert terminal.end("quit\r")[0] == 0
     ran = subprocess.run(
-        [sys.executable, "-B", f"{extras}/event-check", file], capture_output=True, timeout=PATIENCE
+        [sys.executable, "-B", f"{companions}/bin/event-check", file], capture_output=True, timeout=PATIENCE
     )
     assert ran.stdout.decode().endswith(f"\n{check}")
 

@@ -15,11 +15,11 @@ from scripts.clients.program import LOSSY
 from scripts.clients.prompt import LETTERS, check_said, keys_of
 from scripts.clients.random_evenings import laid
 from scripts.clients.waiting import PATIENCE, comes
-from scripts.models.plain_event import Event
-from scripts.models.plain_file import read
+from second_reading.plain_event import Event
+from second_reading.plain_file import read
 
 
-def test_faults(prompt, program, started, stand_in, extras):
+def test_faults(prompt, program, started, stand_in, companions):
     """Files that can't be read, and faults of the prompt itself: each is said, and the prompt goes on."""
     event, file = started("Ana", "Bo")
     os.mkdir(f"{file}.keys")
@@ -55,12 +55,12 @@ def test_faults(prompt, program, started, stand_in, extras):
     )
     assert status == 1, "a list that ends in the middle, the status"
     # the prompt is started with a module in which a word fails
-    broken = "import companions.prompt.rounds as it; it.Rounds.show_round = lambda *_: {}[1]; from companions.prompt.main import main; main()"
+    broken = "import event_companions.prompt.rounds as it; it.Rounds.show_round = lambda *_: {}[1]; from event_companions.prompt.main import main; main()"
     words = [
         sys.executable,
         "-B",
         "-c",
-        f"import sys; sys.path.insert(0, {extras!r}); {broken}",
+        f"import sys; sys.path.insert(0, {companions!r}); {broken}",
         file,
         "--program",
         program.path,

@@ -25,10 +25,10 @@ from scripts.clients.event_files import copied, rows_of, rows_of_copy
 from scripts.clients.prompt import LETTERS, Terminal
 from scripts.clients.random_evenings import is_of_playoff, is_of_swiss, lawful
 from scripts.clients.waiting import PATIENCE, comes
-from scripts.models.plain_event import ENROLLING, FINISHED, PLAYOFF, SWISS, Event, is_complete
-from scripts.models.plain_file import read
 from scripts.models.plain_page import Page, final_rows, ranks_due, shown_rows, shown_standings
 from scripts.models.random_play import random_playoff_score, random_score
+from second_reading.plain_event import ENROLLING, FINISHED, PLAYOFF, SWISS, Event, is_complete
+from second_reading.plain_file import read
 
 # of windows alone, and with phones and a board beside them
 CASES = {"evening": (2, 150), "crowded": (2, 80)}
@@ -217,7 +217,7 @@ class Phone:
         self.gateway, self.secret, self.name, self.number = gateway, secret, f"phone {number}", number
 
     def say(self, move):
-        from companions.lists import Match
+        from event_companions.lists import Match
         from scripts.clients.phone_rooms import address
 
         slip = move.slip
@@ -686,7 +686,7 @@ def gateways(program):
 
 
 @pytest.fixture
-def boards(program, extras):
+def boards(program, companions):
     """`event-sheets --board --watch` over a file. What still watches at the end is killed."""
     begun = []
 
@@ -694,7 +694,7 @@ def boards(program, extras):
         words = [
             sys.executable,
             "-B",
-            f"{extras}/event-sheets",
+            f"{companions}/bin/event-sheets",
             file,
             "--program",
             program.path,
@@ -801,8 +801,8 @@ def test_a_correction_of_table_1_is_none_of_table_2(two):
     two.do(Move(one, "fix 1 2 1 0", (slip.replaces(),), slip.is_meant, slip))
 
 
-def test_each_word_of_the_prompt_is_typed_here(extras):
+def test_each_word_of_the_prompt_is_typed_here(companions):
     """Of those that come later too."""
-    with open(f"{extras}/companions/prompt/desk.py", encoding="utf-8") as source:
+    with open(f"{companions}/event_companions/prompt/desk.py", encoding="utf-8") as source:
         words = re.findall(r"^    (?:def )?do_([a-z]+)", source.read(), re.M)
     assert set(words) - {*MOVES, *(line.split()[0] for line in LOOKS)} == set()

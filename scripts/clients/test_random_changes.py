@@ -14,9 +14,9 @@ import pytest
 
 from scripts.clients.inside import IN_MEMORY
 from scripts.clients.random_evenings import is_of_playoff, is_of_swiss, lawful
-from scripts.models.plain_event import ENROLLING, FINISHED, PLAYOFF, SWISS
-from scripts.models.plain_file import read
 from scripts.models.random_play import random_playoff_score, random_score
+from second_reading.plain_event import ENROLLING, FINISHED, PLAYOFF, SWISS
+from second_reading.plain_file import read
 
 CASES = {"number": (20, 1_000)}
 CHANGES = 10
@@ -41,11 +41,11 @@ class Answers:
 class RandomEvening:
     """An event at the prompt. What it is, is what the plain reading reads from its file."""
 
-    def __init__(self, program, extras, dice, room):
-        sys.path.insert(0, extras)
-        from companions.program import Source
-        from companions.prompt.desk import Desk
-        from companions.turn import Turn
+    def __init__(self, program, companions, dice, room):
+        sys.path.insert(0, companions)
+        from event_companions.program import Source
+        from event_companions.prompt.desk import Desk
+        from event_companions.turn import Turn
 
         self.file, self.dice, self.program = f"{room}/e.event", dice, program
         self.sources = [Source(program.path, self.file, Turn(self.file, makes_file=True)) for _ in range(3)]
@@ -119,8 +119,8 @@ class RandomEvening:
 
     def hand_in(self, event, table, score):
         """As a phone does: the score goes to the program, and a report of it lies beside the event."""
-        from companions.reports import STORED, TIME, Report, Reports
-        from companions.score import Score
+        from event_companions.reports import STORED, TIME, Report, Reports
+        from event_companions.score import Score
 
         number, said = len(event.stored), Score(*score)
         self.sources[2].report(number, str(table), said)
@@ -239,9 +239,9 @@ class RandomEvening:
 
 
 @pytest.fixture
-def evening(program, extras, dice):
+def evening(program, companions, dice):
     with tempfile.TemporaryDirectory(dir=IN_MEMORY) as room:
-        it = RandomEvening(program, extras, dice, room)
+        it = RandomEvening(program, companions, dice, room)
         it.begin()
         yield it
 

@@ -10,9 +10,9 @@ import random
 import pytest
 
 from scripts.clients.event_files import rows_alone, rows_of
-from scripts.models.plain_csv import imported, players_rows, records, results_rows, written
-from scripts.models.plain_event import Event
 from scripts.models.random_play import random_event
+from second_reading.plain_csv import imported, players_rows, records, results_rows, written
+from second_reading.plain_event import Event
 
 # how many of them are tried, and how many with --long; fifty damaged lists to a group
 CASES = {"number": (40, 300), "group": (8, 40)}

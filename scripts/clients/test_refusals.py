@@ -10,7 +10,7 @@ import pytest
 from scripts.clients.event_files import by_sqlite, make_old, rows_alone
 from scripts.clients.prompt import check_said
 from scripts.clients.random_evenings import laid
-from scripts.models.plain_event import Event
+from second_reading.plain_event import Event
 
 
 @pytest.fixture
@@ -191,10 +191,10 @@ def test_refusals_of_the_file(prompt, room, started, stand_in, serve, refused_by
     )
 
 
-def test_texts(extras):
+def test_texts(companions):
     """Each refusal has its words, and all that stands fixed fits a terminal."""
-    sys.path.insert(0, extras)
-    module = importlib.import_module("companions.prompt.texts")
+    sys.path.insert(0, companions)
+    module = importlib.import_module("event_companions.prompt.texts")
     assert sorted(module.REFUSALS) == list(range(1, 31)), "refusals with words"
     texts = [
         *module.REFUSALS.values(),

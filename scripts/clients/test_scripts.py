@@ -18,7 +18,7 @@ from scripts.clients import subcommands
 from scripts.clients.event_files import bytes_of
 from scripts.clients.transcripts import parts_of
 from scripts.clients.waiting import PATIENCE
-from scripts.models.chacha20 import words_of
+from second_reading.chacha20 import words_of
 
 VERSION = f"event_reporter {version()}\n".encode()
 

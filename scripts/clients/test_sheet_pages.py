@@ -1,4 +1,4 @@
-"""What stands on the pages of `extras/event-sheets`, over the program as it is built: on random events of 2 to 512 players, each as far on as an event can be,
+"""What stands on the pages of `companions/bin/event-sheets`, over the program as it is built: on random events of 2 to 512 players, each as far on as an event can be,
 with odd numbers, drops, byes, players who come late, and names of many kinds. Each number and each name of a page has to be that of the plain reading of
 the rules, once in each list. Then what it says where an event can't be read, and how a board is kept up to date.
 """
@@ -23,7 +23,6 @@ from scripts.clients.random_evenings import (
 )
 from scripts.clients.sheets import BARE
 from scripts.clients.waiting import PATIENCE, comes
-from scripts.models.plain_event import Event
 from scripts.models.plain_page import (
     Page,
     bracket_due,
@@ -48,6 +47,7 @@ from scripts.models.plain_page import (
     slips_due,
     table_rows,
 )
+from second_reading.plain_event import Event
 
 CASES = {"number": (12, 400)}
 SIZES = [2, 3, 4, 5, 8, 9, 11, 16, 23, 24, 31, 50, 65, 128]

@@ -1,4 +1,4 @@
-"""Where the pages of `extras/event-sheets` go: into a file beside the event at a terminal, into a file that is named, into a pipe; and that a run which fails
+"""Where the pages of `companions/bin/event-sheets` go: into a file beside the event at a terminal, into a file that is named, into a pipe; and that a run which fails
 leaves the page before as it was. What stands on the pages is compared in `test_sheet_pages.py`.
 """
 import pytest

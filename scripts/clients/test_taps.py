@@ -20,10 +20,10 @@ from scripts.clients.random_evenings import STARTED, evening, laid
 from scripts.clients.sheets import BROWSERS
 from scripts.clients.taps import WIDTH, Browser, Phone
 from scripts.clients.waiting import comes
-from scripts.models.plain_event import FINISHED, Event
+from second_reading.plain_event import FINISHED, Event
 
 # phone_rooms has put it on the path
-from companions.entries import Entries
+from event_companions.entries import Entries
 
 pytestmark = [
     pytest.mark.needs("an event that is played by taps", command=BROWSERS, package="a browser (chromium)"),

@@ -35,7 +35,7 @@ def test_documents(tour, documents):
 FENCED = re.compile(r"^ *```.*?^ *```$", re.M | re.S)
 DOCUMENTS = sorted(
     os.path.relpath(it, TOP)
-    for kind in ("*.md", "docs/*.md", "extras/*.md", "scripts/*.md", "scripts/*/*.md")
+    for kind in ("*.md", "docs/*.md", "companions/*.md", "scripts/*.md", "scripts/*/*.md")
     for it in glob.glob(f"{TOP}/{kind}")
 )
 

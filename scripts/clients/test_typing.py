@@ -10,7 +10,7 @@ import pytest
 from scripts.clients.event_files import as_nobody
 from scripts.clients.prompt import LETTERS, PYTHON, check_said, keys_of, match_shown, player_shown, unfilled
 from scripts.clients.waiting import PATIENCE
-from scripts.models.plain_file import read
+from second_reading.plain_file import read
 
 NAMES = "Ana Lima", "Bo Sato", "Cy Young", "Di Ito"
 

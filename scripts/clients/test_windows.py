@@ -13,8 +13,8 @@ from scripts import TOP
 from scripts.clients.prompt import check_said, unfilled
 from scripts.clients.random_evenings import laid
 from scripts.clients.waiting import PATIENCE
-from scripts.models.plain_event import Event
-from scripts.models.plain_file import read
+from second_reading.plain_event import Event
+from second_reading.plain_file import read
 
 NAMES = "Ana Lima", "Bo Sato", "Cy Young", "Di Ito"
 POST = b'POST /rounds/1/tables/2 HTTP/1.1\r\nContent-Length: 19\r\n\r\n{"a":2,"b":0,"d":0}'
@@ -194,11 +194,11 @@ def test_the_event_that_another_window_makes_is_told(prompt, room):
     assert one.end()[0] == 0
 
 
-def test_who_goes_home_has_a_name(prompt, begun, extras):
+def test_who_goes_home_has_a_name(prompt, begun, companions):
     """Also if the prompt has shown no name yet."""
-    sys.path.insert(0, extras)
-    from companions.reports import TIME, Report, Reports
-    from companions.score import Score
+    sys.path.insert(0, companions)
+    from event_companions.reports import TIME, Report, Reports
+    from event_companions.score import Score
 
     one = prompt.terminal(begun)
     first, second, _ = read(begun).stored[0][0]

@@ -18,7 +18,7 @@ from scripts.clients.prompt import (
 )
 from scripts.clients.random_evenings import ENDED, IN_PLAYOFF, evening, laid
 from scripts.clients.waiting import PATIENCE
-from scripts.models.plain_file import read
+from second_reading.plain_file import read
 
 
 def test_words(prompt, room, started):

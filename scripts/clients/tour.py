@@ -32,7 +32,7 @@ class Tour:
         for place in (f"{room}/commands", room):
             os.symlink(os.path.abspath(program), f"{place}/event_reporter")
         shutil.copytree(f"{TOP}/examples", f"{room}/examples")
-        path = ":".join((f"{room}/commands", f"{TOP}/extras", os.environ["PATH"]))
+        path = ":".join((f"{room}/commands", f"{TOP}/companions/bin", os.environ["PATH"]))
         env = {
             **os.environ,
             "PATH": path,

@@ -34,11 +34,11 @@ from scripts.faults import damaged_bytes
 from scripts.faults import damaged_events
 from scripts.faults import damaged_rows
 from scripts.faults.stopping import run_unclosed
-from scripts.models import plain_file
-from scripts.models.plain_event import PLAYOFF, SWISS, Event
 from scripts.models.plain_log import FRAME, HEAD, committed
 from scripts.models.random_play import random_event, version_of
 from scripts.words import LIBRARY, PROGRAM, SEED, Word, given_by
+from second_reading import plain_file
+from second_reading.plain_event import PLAYOFF, SWISS, Event
 
 READINGS = ("standings", "players", "bracket")
 WRONGLY = "wrongly"

@@ -16,9 +16,9 @@ import tempfile
 from scripts.clients.event_files import bytes_in, copied, due, make_old
 from scripts.clients.program import Program
 from scripts.clients.tally import check, end, left_out
-from scripts.models import plain_file
-from scripts.models.plain_event import Event
 from scripts.words import PROGRAM, Word, given_by
+from second_reading import plain_file
+from second_reading.plain_event import Event
 
 ZERO, ALL = "0" * 64, "all"
 OLD, NEW, MOVED = LAYOUTS = ("old", "new", "moved")

@@ -3,7 +3,7 @@ made anew.
 """
 import copy
 
-from scripts.models.plain_event import BYE, PLAYOFF, SLOTS, SWISS
+from second_reading.plain_event import BYE, PLAYOFF, SLOTS, SWISS
 
 NAMES = (
     "Ana",

@@ -7,7 +7,7 @@ import sqlite3
 
 from scripts.clients.event_files import rows_of
 from scripts.faults.damaged_events import NAMES, NO_NAMES, changed
-from scripts.models.plain_file import COLUMNS, PLAYERS, tables_of
+from second_reading.plain_file import COLUMNS, PLAYERS, tables_of
 
 NUMBERS = (
     -1,

@@ -12,9 +12,9 @@ import time
 from scripts.clients.event_files import due, make_old, rows_alone, rows_of, rows_of_copy, words_of
 from scripts.clients.program import Program
 from scripts.clients.serving import Serving, free_port, received, sent_whole
-from scripts.models.plain_event import Event
 from scripts.models.plain_http import served as served_plainly
 from scripts.words import PROGRAM, SEED, Word, given_by
+from second_reading.plain_event import Event
 
 SCORES = [(2, 0, 0), (2, 1, 0), (1, 2, 0), (0, 2, 0), (1, 1, 1), (0, 0, 3)]
 

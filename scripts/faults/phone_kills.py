@@ -23,8 +23,8 @@ from scripts.clients.phone_rooms import (
 from scripts.clients.serving import hear_interrupts
 from scripts.clients.tally import check, dice_of, end, left_out
 from scripts.clients.waiting import comes
-from scripts.models.plain_file import read
 from scripts.words import PROGRAM, SEED, Word, given_by
+from second_reading.plain_file import read
 
 
 def kill(program, room, dice, turns, sizes):

@@ -14,9 +14,9 @@ from scripts.clients.event_files import rows_alone, rows_of
 from scripts.clients.prompt import LETTERS, Prompt, keys_of, unfilled, where_due
 from scripts.clients.tally import check, dice_of, end
 from scripts.clients.waiting import comes
-from scripts.models.plain_event import Event
-from scripts.models.plain_file import read
 from scripts.words import PROGRAM, SEED, Word, given_by
+from second_reading.plain_event import Event
+from second_reading.plain_file import read
 
 KILLED = [f"enrol P{it}" for it in range(1, 6)] + [
     "start",
@@ -116,7 +116,7 @@ def kill(prompt, room, dice, count):
 
 
 def main(program, count, seed):
-    prompt, dice = Prompt(program, f"{TOP}/extras/event-desk"), dice_of(seed)
+    prompt, dice = Prompt(program, f"{TOP}/companions/bin/event-desk"), dice_of(seed)
     with tempfile.TemporaryDirectory() as room:
         kill(prompt, room, dice, count)
     end("the prompt, killed")

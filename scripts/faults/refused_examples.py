@@ -18,10 +18,10 @@ from scripts.faults.refused_file_memory import MEMORY, Line, write_lists
 from scripts.faults.refused_http_memory import REQUESTS, SLIP, Request
 from scripts.faults.refused_memory import Script
 from scripts.faults.refusing import no_cause_no_fault, refusing
-from scripts.models.plain_csv import imported, players_rows, results_rows, written
-from scripts.models.plain_event import Event
 from scripts.models.plain_http import served as served_plainly
 from scripts.words import LIBRARY, PROGRAM, Word, given_by
+from second_reading.plain_csv import imported, players_rows, results_rows, written
+from second_reading.plain_event import Event
 
 NAME, ZERO = "Friday", "0" * 64
 FOUR = ["enrol\tAna", "enrol\tBo", "enrol\tCy", "enrol\tDi"]

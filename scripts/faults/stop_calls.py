@@ -34,9 +34,9 @@ from scripts.clients.event_files import (
 )
 from scripts.clients.program import Program
 from scripts.faults.stopping import STOPS, calls_of, meddling, ways
-from scripts.models.plain_event import Event
 from scripts.models.random_play import random_event, version_of
 from scripts.words import LIBRARY, PROGRAM, SEED, Word, given_by
+from second_reading.plain_event import Event
 
 # the most players of a random event that is played to its champion
 MOST = 12

@@ -137,7 +137,9 @@ def compiled():
     with tempfile.TemporaryDirectory() as kept:
         os.environ["PYTHONPYCACHEPREFIX"] = kept
         subprocess.run(
-            [python(), "-m", "compileall", "-q", "extras/companions", "scripts"], cwd=TOP, check=True
+            [python(), "-m", "compileall", "-q", "companions", "scripts"],
+            cwd=TOP,
+            check=True,
         )
         yield
 

@@ -1,4 +1,4 @@
-"""A plain reading of the pages of `extras/event-sheets`: a page as a tree, what each of its lists shows, and what they have to show of an event as the
+"""A plain reading of the pages of `companions/bin/event-sheets`: a page as a tree, what each of its lists shows, and what they have to show of an event as the
 plain reading of the rules has it. It uses nothing of the program, nor of the sheets.
 """
 import copy
@@ -7,7 +7,7 @@ import operator
 import re
 import unicodedata
 
-from scripts.models.plain_event import FINISHED, is_complete, winner
+from second_reading.plain_event import FINISHED, is_complete, winner
 
 VOID = {"meta", "col"}
 STAGES = {1: "Final", 2: "Semifinals", 4: "Quarterfinals"}

@@ -14,12 +14,12 @@ if __name__ == "__main__":
     sys.path.insert(0, os.path.dirname(os.path.dirname(os.path.dirname(os.path.realpath(__file__)))))
 
 from scripts.clients.event_files import rows_of
-from scripts.models import plain_file
-from scripts.models.plain_csv import MOST_BYTES, imported
-from scripts.models.plain_event import Event
 from scripts.models.plain_http import read_of, served
 from scripts.models.plain_script import SHORT, Script, Usage, answers, may_begin, number, read
 from scripts.models.schema import TABLES
+from second_reading import plain_file
+from second_reading.plain_csv import MOST_BYTES, imported
+from second_reading.plain_event import Event
 
 UNKNOWN = "the plain reading has no answer to this"
 STORE, NO_EVENT = "refused 25 Store", "refused 27 NoEvent"

@@ -3,8 +3,8 @@ import csv
 import io
 import re
 
-from scripts.models.plain_csv import players_rows, results_rows
-from scripts.models.plain_event import Event, is_lawful
+from second_reading.plain_csv import players_rows, results_rows
+from second_reading.plain_event import Event, is_lawful
 
 MOST_ROUNDS, CUTS = 12, (0, 2, 4, 8)
 BYTE, SHORT = 255, 65_535

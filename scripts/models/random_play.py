@@ -3,8 +3,8 @@ ones, of 8 to 64 players, which are played from the first round to the champion,
 is a long one, of twice as many players and up to the most rounds. Others enrol at any time: in a round that is open or complete, once all rounds are
 paired, and in the playoff. An event that begins in version 1 is moved to version 2 at a random place.
 """
-from scripts.models.plain_event import PLAYOFF, SWISS, Event
-from scripts.models.plain_file import MOST_ROUNDS
+from second_reading.plain_event import PLAYOFF, SWISS, Event
+from second_reading.plain_file import MOST_ROUNDS
 
 FEWEST_LONG, FEWEST_ROUNDS_LONG = 24, 8
 

@@ -7,7 +7,7 @@ import subprocess
 from scripts import TOP
 from scripts.package.listed import LINK
 
-COMPANIONS = sorted(map(os.path.basename, glob.glob(f"{TOP}/extras/event-*")))
+COMPANIONS = sorted(map(os.path.basename, glob.glob(f"{TOP}/companions/bin/event-*")))
 COMMANDS = ["event_reporter", *COMPANIONS]
 SECONDS = 900
 

@@ -1,4 +1,4 @@
-"""Says what is missing of a language, or begins one: the tables of texts for phones, sheets and board, in `extras/companions/languages`.
+"""Says what is missing of a language, or begins one: the tables of texts for phones, sheets and board, in `companions/event_companions/languages`.
 
     python3 -B -m scripts.package.languages            says of each language how many of its texts are missing
     python3 -B -m scripts.package.languages fr         names each text that is missing of French, with the English one
@@ -11,9 +11,7 @@ import sys
 
 from scripts import TOP
 
-sys.path.insert(0, f"{TOP}/extras")
-
-from companions.languages import DEFAULT, FOLDER, TABLES, missing_in  # noqa: E402
+from event_companions.languages import DEFAULT, FOLDER, TABLES, missing_in
 
 
 def template(table):

@@ -7,7 +7,7 @@ import scripts
 from scripts import TOP
 
 PROGRAM = "crates/event_reporter/out/event_reporter"
-PACKED = ("README.md", "CHANGELOG.md", "docs", "examples", "extras", "scripts/package")
+PACKED = ("README.md", "CHANGELOG.md", "docs", "examples", "companions", "scripts/package")
 
 
 class Unfit(Exception):

@@ -1,7 +1,7 @@
 """Makes the man pages of the companions from what they say with --help, or says which page is not as it would be made.
 
     python3 -B -m scripts.package.manuals           compares
-    python3 -B -m scripts.package.manuals --write   writes event-desk.1, event-sheets.1, event-phones.1 and event-check.1 into extras/man
+    python3 -B -m scripts.package.manuals --write   writes event-desk.1, event-sheets.1, event-phones.1 and event-check.1 into companions/man
 """
 import argparse
 import importlib
@@ -11,13 +11,12 @@ import sys
 
 from scripts import TOP
 
-sys.path.insert(0, f"{TOP}/extras")
 # the module of each companion that reads its command line
 COMPANIONS = (
-    "companions.prompt.main",
-    "companions.sheets.main",
-    "companions.phones.main",
-    "scripts.models.event_check",
+    "event_companions.prompt.main",
+    "event_companions.sheets.main",
+    "event_companions.phones.main",
+    "second_reading.event_check",
 )
 DESK, SHEETS, PHONES, CHECK = "event-desk", "event-sheets", "event-phones", "event-check"
 # what lies beside FILE, as docs/FORMATS.md says more of it, and who makes or reads it
@@ -114,7 +113,7 @@ def pages():
     modules = [importlib.import_module(name) for name in COMPANIONS]
     names = [module.COMMAND for module in modules]
     return {
-        f"extras/man/{it.COMMAND}.1": page(it, [name for name in names if name != it.COMMAND])
+        f"companions/man/{it.COMMAND}.1": page(it, [name for name in names if name != it.COMMAND])
         for it in modules
     }
 

@@ -28,7 +28,7 @@ def test_program(program):
 # event-check calls no program, so it has no version to print
 @pytest.mark.parametrize("name", [it for it in COMPANIONS if it != "event-check"])
 def test_companion(program, name):
-    words = (f"{TOP}/extras/{name}", "--program", program.path, "--version")
+    words = (f"{TOP}/companions/bin/{name}", "--program", program.path, "--version")
     assert printed(*words) == (0, f"{name} (event_reporter) {scripts.version()}\n")
 
 
