@@ -1,7 +1,7 @@
 """A source that answers from the plain reading of the rules, in place of the program."""
-from event_companions.lists import Bracket, Match, Player, standings_of
-from event_companions.score import Score
-from event_companions.turn import Turn
+from event_companions.core.lists import Bracket, Match, Player, standings_of
+from event_companions.core.score import Score
+from event_companions.core.turn import Turn
 
 
 class FromModel:

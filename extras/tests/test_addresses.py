@@ -6,13 +6,13 @@ import pytest
 
 pytest.importorskip("waitress")
 
-from event_companions.arguments import place_word
-from event_companions.codes import Secret
+from event_companions.beside.codes import Secret
+from event_companions.core.arguments import place_word
+from event_companions.core.program import Declined
 from event_companions.phones import addresses, serving
 from event_companions.phones.door import NO_LIMIT, AnotherMachines, door_at
 from event_companions.phones.main import not_installed
 from event_companions.phones.serving import host_and_port
-from event_companions.program import Declined
 
 
 def finds(_port):

@@ -1,8 +1,8 @@
 """What a command line ends with."""
 import pytest
-from event_companions.arguments import status_of
-from event_companions.program import Declined
-from event_companions.reading import Unread
+from event_companions.core.arguments import status_of
+from event_companions.core.program import Declined
+from event_companions.core.reading import Unread
 
 
 def raising(fault):

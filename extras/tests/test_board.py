@@ -1,7 +1,7 @@
 """How large the letters of a board are."""
 from dataclasses import replace
 
-from event_companions.lists import Player
+from event_companions.core.lists import Player
 from event_companions.sheets.board import (
     AROUND,
     FOOT,

@@ -1,7 +1,7 @@
 import time
 
 import pytest
-from event_companions.clock import Clock, keep_clock, kept_clock, stop_clock
+from event_companions.beside.clock import Clock, keep_clock, kept_clock, stop_clock
 
 
 @pytest.mark.parametrize(

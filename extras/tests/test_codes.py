@@ -6,8 +6,7 @@ import os
 import stat
 
 import pytest
-from event_companions.arguments import address_word
-from event_companions.codes import (
+from event_companions.beside.codes import (
     FIRST_SEAT,
     SECOND_SEAT,
     TABLE,
@@ -18,9 +17,10 @@ from event_companions.codes import (
     secret_for,
     shown_code,
 )
-from event_companions.lists import Match, Player
-from event_companions.program import Declined
-from event_companions.score import Score
+from event_companions.core.arguments import address_word
+from event_companions.core.lists import Match, Player
+from event_companions.core.program import Declined
+from event_companions.core.score import Score
 
 AT = "http://192.168.1.10:8080"
 MATCH = Match(17, 4, 2)

@@ -1,6 +1,6 @@
-from event_companions.doubts import Doubt, Doubts, with_doubts
-from event_companions.lists import Match
-from event_companions.score import Score
+from event_companions.beside.doubts import Doubt, Doubts, with_doubts
+from event_companions.core.lists import Match
+from event_companions.core.score import Score
 
 ROUNDS = [
     [Match(1, 4, 2, Score(2, 0)), Match(2, 1, 3, Score(2, 1))],

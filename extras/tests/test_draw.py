@@ -4,7 +4,7 @@ import random
 
 import pytest
 
-from event_companions.draw import (
+from event_companions.draw.draw import (
     BEFORE_THE_FIRST,
     DrawText,
     Lists,

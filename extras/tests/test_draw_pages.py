@@ -7,9 +7,9 @@ import pytest
 pytest.importorskip("jinja2")
 
 from test_phone_pages import Room
-from event_companions.draw import BEFORE_THE_FIRST, Lists, rule_of, text_of
-from event_companions.draws import Draws, Kept
-from event_companions.event import Event
+from event_companions.core.event import Event
+from event_companions.draw.draw import BEFORE_THE_FIRST, Lists, rule_of, text_of
+from event_companions.draw.draws import Draws, Kept
 from event_companions.sheets.page import page_of, parts_of_board
 from event_companions.sheets.parts import part_of
 from event_companions.sheets.squares import MOST_BYTES, square_of

@@ -1,6 +1,6 @@
 """The bracket as it is drawn, beside the stages of the plain reading."""
 import pytest
-from event_companions.event import Event
+from event_companions.core.event import Event
 from event_companions.languages import say_in
 from event_companions.sheets.bracket import Tree, lines_for
 from from_model import FromModel

@@ -3,9 +3,9 @@ import os
 
 import pytest
 
-from event_companions.draw import BEFORE_THE_FIRST, DrawText, Lists, key_of, rule_of
-from event_companions.draws import Draws, Kept, differences, keep_new
-from event_companions.lists import Match
+from event_companions.core.lists import Match
+from event_companions.draw.draw import BEFORE_THE_FIRST, DrawText, Lists, key_of, rule_of
+from event_companions.draw.draws import Draws, Kept, differences, keep_new
 
 HEADING = b"round,table,a,b,x,y,d\n"
 LISTS = Lists(b"no,name,dropped\n1,Ana,0\n2,Bo,0\n", HEADING)

@@ -5,9 +5,9 @@ import signal
 import stat
 
 import pytest
-from event_companions import entries as module
-from event_companions.entries import Entries, Entry, NotEntered
-from event_companions.rosters import read_list, roster_of
+from event_companions.beside import entries as module
+from event_companions.beside.entries import Entries, Entry, NotEntered
+from event_companions.core.rosters import read_list, roster_of
 
 
 @pytest.fixture

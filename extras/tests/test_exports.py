@@ -3,8 +3,8 @@ import csv
 import io
 
 import pytest
-from event_companions.event import Event
-from event_companions.exports import final_csv, final_ranking, playoff_csv, results_csv, standings_csv
+from event_companions.core.event import Event
+from event_companions.core.exports import final_csv, final_ranking, playoff_csv, results_csv, standings_csv
 from from_model import FromModel
 from scripts.clients.random_evenings import ENDED, IN_PLAYOFF, evening
 from scripts.models.plain_page import final_rows, standings_due

@@ -4,10 +4,10 @@ import sqlite3
 import threading
 
 import pytest
-from event_companions.copies import Copies, Copy
-from event_companions.holding import held_by_nobody
-from event_companions.program import Declined
-from event_companions.turn import Turn
+from event_companions.beside.copies import Copies, Copy
+from event_companions.core.holding import held_by_nobody
+from event_companions.core.program import Declined
+from event_companions.core.turn import Turn
 
 
 @pytest.fixture

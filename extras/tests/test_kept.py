@@ -1,7 +1,7 @@
 """What the program said is kept while no command came."""
-from event_companions.lists import Match
-from event_companions.program import PLAYERS, RESULTS, Kept, Stamp
-from event_companions.score import Score
+from event_companions.core.lists import Match
+from event_companions.core.program import PLAYERS, RESULTS, Kept, Stamp
+from event_companions.core.score import Score
 
 ONE, TWO, THREE = (Stamp(7, 4096, 1_000_000_001 + at, 41) for at in range(3))
 WHOLE = Stamp(7, 4096, 5_000_000_000, 41)

@@ -2,11 +2,11 @@
 import os
 
 import pytest
-from event_companions.codes import Secret, keep_secret, kept_secret, path_of
-from event_companions.event import Event
+from event_companions.beside.codes import Secret, keep_secret, kept_secret, path_of
+from event_companions.core.event import Event
+from event_companions.core.program import Declined
 from event_companions.phones.cache import EventCache
 from event_companions.phones.kept_codes import KeptCodes, locked, must_be_alone
-from event_companions.program import Declined
 from from_model import FromModel
 from second_reading.plain_event import Event as Played
 

@@ -2,10 +2,10 @@
 import os
 import stat
 
-from event_companions.checking import differing_tables
-from event_companions.keys import Keys
-from event_companions.lists import Match
-from event_companions.score import Score
+from event_companions.beside.keys import Keys
+from event_companions.core.checking import differing_tables
+from event_companions.core.lists import Match
+from event_companions.core.score import Score
 
 ONE, OTHER, THIRD = "ab" * 32, "cd" * 32, "0F" * 32
 

@@ -4,6 +4,7 @@ import threading
 import time
 
 import pytest
+from event_companions.core.program import Declined
 from event_companions.phones.door import door_at
 from event_companions.phones.limits import (
     ADDRESSES_OF_A_NETWORK,
@@ -15,7 +16,6 @@ from event_companions.phones.limits import (
     network_of,
     origin_of,
 )
-from event_companions.program import Declined
 
 
 def test_so_many_at_once_and_then_one_in_so_many_seconds(monkeypatch):

@@ -1,6 +1,8 @@
 import pytest
-from event_companions.event import Progress
-from event_companions.program import Declined, Refusal
+from event_companions.core.event import Progress
+from event_companions.core.program import Declined, Refusal
+from event_companions.core.score import Score
+from event_companions.core.wording import ranges
 from event_companions.prompt.desk import only
 from event_companions.prompt.lines import Input, minutes_in, minutes_of, numbers_in, score_in, with_score
 from event_companions.prompt.players import have_a_word_in_common
@@ -17,8 +19,6 @@ from event_companions.prompt.texts import (
     PLAYOFF,
     REFUSALS,
 )
-from event_companions.score import Score
-from event_companions.wording import ranges
 
 
 def test_numbers():

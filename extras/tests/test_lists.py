@@ -2,7 +2,7 @@ import csv
 import io
 
 import pytest
-from event_companions.lists import (
+from event_companions.core.lists import (
     Match,
     Unreadable,
     bracket_of,
@@ -11,7 +11,7 @@ from event_companions.lists import (
     rounds_of,
     standings_of,
 )
-from event_companions.score import Score
+from event_companions.core.score import Score
 from scripts.clients.random_evenings import WAYS, evening
 
 

@@ -4,7 +4,7 @@ import re
 
 import pytest
 from contrasts import contrast
-from event_companions.look import ACCENT, Look, look_of
+from event_companions.beside.look import ACCENT, Look, look_of
 from event_companions.sheets.colours import DARK, LIGHT, PRINTED, palette
 
 PNG = b"\x89PNG\r\n\x1a\n and the rest"

@@ -3,7 +3,7 @@ import threading
 import time
 
 import pytest
-from event_companions.lists import Player
+from event_companions.core.lists import Player
 from event_companions.prompt.offers import offers_of_players, offers_of_words
 
 toolkit = pytest.importorskip("prompt_toolkit")

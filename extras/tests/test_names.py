@@ -1,6 +1,6 @@
 import pytest
-from event_companions.lists import Player
-from event_companions.names import (
+from event_companions.core.lists import Player
+from event_companions.core.names import (
     Listed,
     all_but_the_first,
     compared,

@@ -2,12 +2,12 @@
 from types import SimpleNamespace
 
 import pytest
-from event_companions.event import Progress
+from event_companions.beside.reports import STORED, Report, Reports
+from event_companions.core.event import Progress
+from event_companions.core.score import Score
 from event_companions.prompt.lines import Input
 from event_companions.prompt.news import News
 from event_companions.prompt.session import SECONDS_TO_READ, Session
-from event_companions.reports import STORED, Report, Reports
-from event_companions.score import Score
 
 
 class Typing:

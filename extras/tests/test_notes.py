@@ -2,8 +2,8 @@
 import os
 
 import pytest
-from event_companions.lists import Match
-from event_companions.notes import MOST_LETTERS, Note, Notes, note_of
+from event_companions.beside.notes import MOST_LETTERS, Note, Notes, note_of
+from event_companions.core.lists import Match
 
 AT_9, AT_4 = Match(9, 1, 2), Match(4, 3, 5)
 

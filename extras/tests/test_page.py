@@ -9,12 +9,12 @@ import pytest
 pytest.importorskip("jinja2")
 
 from markupsafe import Markup
-from event_companions.clock import Clock
-from event_companions.codes import Secret, shown_code
-from event_companions.event import Event
+from event_companions.beside.clock import Clock
+from event_companions.beside.codes import Secret, shown_code
+from event_companions.beside.look import Look
+from event_companions.core.event import Event
+from event_companions.core.plan import Plan
 from event_companions.languages import say_in
-from event_companions.look import Look
-from event_companions.plan import Plan
 from event_companions.sheets.colours import DARK, LIGHT, PRINTED
 from event_companions.sheets.page import (
     Board,

@@ -13,11 +13,14 @@ import pytest
 pytest.importorskip("jinja2")
 
 from contrasts import contrast
-from event_companions.clock import Clock, keep_clock
-from event_companions.codes import Secret, keep_secret, shown_code
-from event_companions.event import Event
+from event_companions.beside.clock import Clock, keep_clock
+from event_companions.beside.codes import Secret, keep_secret, shown_code
+from event_companions.beside.notes import Notes
+from event_companions.beside.reports import OTHER, STORED, WRONG, Reports, judge_call
+from event_companions.core.event import Event
+from event_companions.core.plan import Plan
+from event_companions.core.score import Score
 from event_companions.languages import LANGUAGES
-from event_companions.notes import Notes
 from event_companions.phones import site as module
 from event_companions.phones.asked import hosts_of
 from event_companions.phones.at_table import drops_in
@@ -26,9 +29,6 @@ from event_companions.phones.desk_page import Desk
 from event_companions.phones.pages import style
 from event_companions.phones.score_queue import Answer, NotNow
 from event_companions.phones.site import Site, outcome_of
-from event_companions.plan import Plan
-from event_companions.reports import OTHER, STORED, WRONG, Reports, judge_call
-from event_companions.score import Score
 from event_companions.sheets.making import Wanted, page_maker
 from from_model import FromModel
 from scripts.clients.random_evenings import (
@@ -335,7 +335,7 @@ def test_the_board_is_the_page_of_the_sheets(room):
 def test_the_event_s_name_is_asked_once_for_each_picture(room, monkeypatch):
     asked = []
     plan = Plan("Friday <Night>", 3, 0)
-    monkeypatch.setattr("event_companions.title.plan_of", lambda *_: asked.append(1) or plan)
+    monkeypatch.setattr("event_companions.beside.title.plan_of", lambda *_: asked.append(1) or plan)
     room.cache.title = None
     room.cache.keep(*room.cache.read_all(Event(FromModel(room.event), room.file)))
     for target in ("/", "/pairings", "/standings", "/board", room.target(1)):
@@ -735,7 +735,7 @@ def test_what_waits_has_to_be_on_the_disk(both, monkeypatch):
 
 
 def test_reports_that_are_full_are_told_apart_from_a_full_disk(both, monkeypatch):
-    monkeypatch.setattr("event_companions.reports.MOST_BYTES", 10)
+    monkeypatch.setattr("event_companions.beside.reports.MOST_BYTES", 10)
     assert both.hand_in(1, "2-0-0", seat=1).status == 503
     path = both.reports.path
     assert f"It is full. Move it away: mv {path} {path}.full" in check_page(both.desk_page()).root.text()

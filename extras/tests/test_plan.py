@@ -3,8 +3,8 @@ import os
 import sqlite3
 
 import pytest
-from event_companions.plan import Plan, plan_of
-from event_companions.turn import Turn
+from event_companions.core.plan import Plan, plan_of
+from event_companions.core.turn import Turn
 
 
 def test_the_plan_is_read_from_a_copy(tmp_path):

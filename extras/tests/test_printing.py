@@ -7,12 +7,12 @@ import pytest
 
 pytest.importorskip("jinja2")
 
-from event_companions.codes import Secret, keep_secret
-from event_companions.event import Event
-from event_companions.program import Declined, Refused, Stamp
+from event_companions.beside.codes import Secret, keep_secret
+from event_companions.beside.title import keep_title
+from event_companions.core.event import Event
+from event_companions.core.program import Declined, Refused, Stamp
 from event_companions.prompt.printing import Printing, wanted_by
 from event_companions.sheets.files import NEXT_OF_SHEETS
-from event_companions.title import keep_title
 from from_model import FromModel
 from scripts.clients.random_evenings import COMPLETE, ENDED, ENROLLING, IN_PLAYOFF, OPEN, STARTED, evening
 from scripts.models.plain_page import Page, final_rows, parts_due, shown_rows, shown_slips, slips_due
@@ -163,7 +163,7 @@ def test_a_refusal_is_the_prompt_s_to_explain(tmp_path, dice):
 
 def test_without_jinja_it_says_what_to_install(tmp_path, dice, monkeypatch):
     session = Session(tmp_path, evening(dice, 9, OPEN, 3, 4))
-    for module in ("event_companions.sheets.page", "event_companions.templates"):
+    for module in ("event_companions.sheets.page", "event_companions.core.templates"):
         monkeypatch.delitem(sys.modules, module, raising=False)
     monkeypatch.setitem(sys.modules, "jinja2", None)
     with pytest.raises(Declined, match="\nsudo apt-get install python3-jinja2$"):

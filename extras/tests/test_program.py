@@ -5,7 +5,7 @@ from pathlib import Path
 
 import pytest
 
-from event_companions import program
+from event_companions.core import program
 
 BUILT = "crates/event_reporter/out/event_reporter"
 
@@ -29,23 +29,23 @@ def make(tmp_path: Path, monkeypatch: pytest.MonkeyPatch):
 
 def test_in_a_checkout(make):
     assert (
-        make("top/companions/event_companions", "bin/event_reporter", "top/event_reporter")
+        make("top/companions/event_companions/core", "bin/event_reporter", "top/event_reporter")
         == "top/event_reporter"
     )
-    assert make("top/companions/event_companions", f"top/{BUILT}") == f"top/{BUILT}"
+    assert make("top/companions/event_companions/core", f"top/{BUILT}") == f"top/{BUILT}"
 
 
 def test_installed(make):
-    assert make("usr/share/event-reporter/event_companions") == "event_reporter"
+    assert make("usr/share/event-reporter/event_companions/core") == "event_reporter"
     assert (
-        make("usr/share/event-reporter/event_companions", "usr/bin/event_reporter")
+        make("usr/share/event-reporter/event_companions/core", "usr/bin/event_reporter")
         == "usr/bin/event_reporter"
     )
 
 
 def test_a_link_is_followed(make, tmp_path, monkeypatch):
-    make("usr/share/event-reporter/event_companions", "usr/bin/event_reporter")
-    (tmp_path / "link").symlink_to(tmp_path / "usr/share/event-reporter/event_companions")
+    make("usr/share/event-reporter/event_companions/core", "usr/bin/event_reporter")
+    (tmp_path / "link").symlink_to(tmp_path / "usr/share/event-reporter/event_companions/core")
     monkeypatch.setattr(program, "__file__", str(tmp_path / "link/program.py"))
     assert program.program_beside() == str(tmp_path / "usr/bin/event_reporter")
 

@@ -1,8 +1,8 @@
 """What players have won, lost and drawn, beside the plain reading."""
 import pytest
 
-from event_companions.event import Event
-from event_companions.records import Record, records_of
+from event_companions.core.event import Event
+from event_companions.core.records import Record, records_of
 from from_model import FromModel
 from scripts.clients.random_evenings import COMPLETE, OPEN, evening
 from scripts.models.plain_page import record_due

@@ -1,8 +1,8 @@
 """What a change makes of the lists of an event, and the advice on rounds and cut."""
-from event_companions.lists import Bracket, Match, Player
-from event_companions.plan import Plan, ordinal, usual_rounds
-from event_companions.replaying import Change
-from event_companions.score import Score
+from event_companions.core.lists import Bracket, Match, Player
+from event_companions.core.plan import Plan, ordinal, usual_rounds
+from event_companions.core.replaying import Change
+from event_companions.core.score import Score
 
 PLAYERS = {number: Player(number, f"P{number}", number == 3) for number in range(1, 5)}
 ROUNDS = [

@@ -4,10 +4,8 @@ import json
 import os
 
 import pytest
-from event_companions import reports as module
-from event_companions.lists import Match, Player
-from event_companions.prompt.news import lines_of
-from event_companions.reports import (
+from event_companions.beside import reports as module
+from event_companions.beside.reports import (
     CALLS,
     HOME,
     NO_SCORE,
@@ -31,7 +29,9 @@ from event_companions.reports import (
     words_to_mend,
     words_to_store,
 )
-from event_companions.score import Score
+from event_companions.core.lists import Match, Player
+from event_companions.core.score import Score
+from event_companions.prompt.news import lines_of
 
 STORED_AT_9 = Match(9, 1, 2, Score(2, 1))
 OPEN_AT_9 = Match(9, 1, 2)

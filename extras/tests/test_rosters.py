@@ -1,8 +1,8 @@
 import csv
 
 import pytest
-from event_companions.program import Declined
-from event_companions.rosters import path_and_codec, read_list, roster_of, tidy, written_list
+from event_companions.core.program import Declined
+from event_companions.core.rosters import path_and_codec, read_list, roster_of, tidy, written_list
 from scripts.clients.random_evenings import HOSTILE
 
 # as COMMANDS shows them

@@ -1,6 +1,6 @@
 """A score as it is read and shown."""
 import pytest
-from event_companions.score import Score
+from event_companions.core.score import Score
 
 
 def test_a_score_is_read_and_written():

@@ -2,9 +2,9 @@
 import os
 
 import pytest
-from event_companions.copies import Copies
-from event_companions.second_place import SecondPlace
-from event_companions.turn import Turn
+from event_companions.beside.copies import Copies
+from event_companions.beside.second_place import SecondPlace
+from event_companions.core.turn import Turn
 
 
 @pytest.fixture

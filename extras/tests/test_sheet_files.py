@@ -3,7 +3,7 @@ import os
 import stat
 
 import pytest
-from event_companions.program import Declined
+from event_companions.core.program import Declined
 from event_companions.sheets.files import must_be_for_pages, page_beside, write_page
 
 

@@ -2,9 +2,9 @@
 from dataclasses import replace
 
 import pytest
-from event_companions.lists import Player
-from event_companions.names import compared
-from event_companions.shown_names import ShownName, ShownNames, with_shown_names
+from event_companions.beside.shown_names import ShownName, ShownNames, with_shown_names
+from event_companions.core.lists import Player
+from event_companions.core.names import compared
 from from_model import FromModel
 from scripts.clients.random_evenings import ENDED, evening
 

@@ -1,7 +1,7 @@
 """What came since a copy. An event is read from the texts of the plain reading."""
-from event_companions.draw import rule_of
-from event_companions.draws import Draws, Kept
-from event_companions.event import Event
+from event_companions.core.event import Event
+from event_companions.draw.draw import rule_of
+from event_companions.draw.draws import Draws, Kept
 from event_companions.prompt.since import Missing, came_since, counted_since, left_in, missing_since
 from from_model import FromModel
 from second_reading.plain_event import Event as PlainEvent

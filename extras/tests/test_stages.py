@@ -1,6 +1,6 @@
 """The stages of a playoff by their names."""
 import pytest
-from event_companions.stages import slot_shown, slot_typed, stage_name, words_of_slot
+from event_companions.core.stages import slot_shown, slot_typed, stage_name, words_of_slot
 
 
 def test_the_names_by_how_many_matches_the_first_stage_has():

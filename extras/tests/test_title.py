@@ -3,8 +3,8 @@ import os
 import sqlite3
 
 import pytest
-from event_companions.title import event_name, file_name, keep_title, title_of
-from event_companions.turn import Turn
+from event_companions.beside.title import event_name, file_name, keep_title, title_of
+from event_companions.core.turn import Turn
 
 
 def made(path, name):

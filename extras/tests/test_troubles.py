@@ -5,16 +5,16 @@ import pytest
 
 pytest.importorskip("jinja2")
 
+from event_companions.beside.troubles import BYTES, Told, Troubles, kept_troubles, path_of
+from event_companions.core.program import Refused
+from event_companions.core.score import Score
+from event_companions.core.turn import Turn
 from event_companions.phones import cache as cache_module
 from event_companions.phones import score_queue as queue_module
 from event_companions.phones.cache import EventCache
 from event_companions.phones.running import Running
 from event_companions.phones.score_queue import NotNow, ScoreQueue
-from event_companions.program import Refused
 from event_companions.prompt.news import troubles_told
-from event_companions.score import Score
-from event_companions.troubles import BYTES, Told, Troubles, kept_troubles, path_of
-from event_companions.turn import Turn
 
 
 @pytest.fixture

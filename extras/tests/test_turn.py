@@ -6,8 +6,8 @@ import threading
 import time
 
 import pytest
-from event_companions import turn
-from event_companions.turn import Turn
+from event_companions.core import turn
+from event_companions.core.turn import Turn
 
 
 @pytest.fixture

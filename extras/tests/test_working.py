@@ -3,9 +3,9 @@ from dataclasses import replace
 
 import pytest
 
-from event_companions.event import Event
+from event_companions.core.event import Event
+from event_companions.core.working import percent, share_shown, working_of
 from event_companions.prompt.players import working_lines
-from event_companions.working import percent, share_shown, working_of
 from from_model import FromModel
 from scripts.clients.random_evenings import COMPLETE, OPEN, evening
 from second_reading.plain_event import Event as Plain

@@ -75,9 +75,9 @@ class StayingPrompt:
     """One prompt to which lines are typed as they come."""
 
     def __init__(self, program, file):
-        from event_companions.program import Source, ready
+        from event_companions.core.program import Source, ready
+        from event_companions.core.turn import Turn
         from event_companions.prompt.desk import Desk
-        from event_companions.turn import Turn
 
         with streams(()) as (said, _):
             self.desk = Desk(Source(ready(program), file, Turn(file, makes_file=True)), file)
@@ -100,7 +100,7 @@ def count(stop):
     import shutil
     import subprocess
 
-    import event_companions.copies
+    import event_companions.beside.copies
 
     left = [stop]
 
@@ -118,7 +118,7 @@ def count(stop):
         (shutil, "copyfileobj"),
         (subprocess, "run"),
         (builtins, "open"),
-        (event_companions.copies, "exchange"),
+        (event_companions.beside.copies, "exchange"),
     )
     for place, names in calls:
         for name in names.split():
@@ -145,8 +145,8 @@ def ends_killed(body):
 def exchange_is_killed(companions, file, new, stop):
     """While another event is put in the place of one."""
     sys.path.insert(0, companions)
-    from event_companions.copies import Copies, Copy
-    from event_companions.turn import Turn
+    from event_companions.beside.copies import Copies, Copy
+    from event_companions.core.turn import Turn
 
     def body():
         count(stop)

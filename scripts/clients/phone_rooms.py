@@ -18,10 +18,10 @@ from scripts.clients.program import Program
 from scripts.clients.serving import free_port
 from scripts.clients.waiting import PATIENCE
 
-from event_companions.codes import keep_secret, kept_secret, secret_for
-from event_companions.lists import players_of, rounds_of
-from event_companions.reports import TIME, Report, Reports
-from event_companions.score import Score
+from event_companions.beside.codes import keep_secret, kept_secret, secret_for
+from event_companions.beside.reports import TIME, Report, Reports
+from event_companions.core.lists import players_of, rounds_of
+from event_companions.core.score import Score
 
 PHONES = f"{TOP}/companions/bin/event-phones"
 # on the slips of an event that nobody serves

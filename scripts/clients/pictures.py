@@ -19,18 +19,18 @@ from scripts import TOP
 
 sys.path.insert(0, f"{TOP}/extras/tests")
 
-from event_companions.clock import Clock, keep_clock  # noqa: E402
-from event_companions.codes import Secret, keep_secret  # noqa: E402
-from event_companions.event import Event  # noqa: E402
+from event_companions.beside.clock import Clock, keep_clock  # noqa: E402
+from event_companions.beside.codes import Secret, keep_secret  # noqa: E402
+from event_companions.beside.reports import Reports  # noqa: E402
+from event_companions.beside.shown_names import ShownName, ShownNames  # noqa: E402
+from event_companions.beside.title import keep_title  # noqa: E402
+from event_companions.core.event import Event  # noqa: E402
+from event_companions.core.plan import Plan  # noqa: E402
 from event_companions.phones.asked import hosts_of  # noqa: E402
 from event_companions.phones.cache import EventCache  # noqa: E402
 from event_companions.phones.pages import style  # noqa: E402
 from event_companions.phones.site import Site  # noqa: E402
-from event_companions.plan import Plan  # noqa: E402
-from event_companions.reports import Reports  # noqa: E402
 from event_companions.sheets.making import Wanted, page_maker  # noqa: E402
-from event_companions.shown_names import ShownName, ShownNames  # noqa: E402
-from event_companions.title import keep_title  # noqa: E402
 from from_model import FromModel  # noqa: E402
 from scripts.clients.random_evenings import play_bracket, report_round  # noqa: E402
 from scripts.clients.sheets import BROWSERS  # noqa: E402

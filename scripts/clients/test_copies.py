@@ -128,7 +128,7 @@ def played(rows):
 STOPPED = """
 import os, sys
 sys.path.insert(0, {companions!r})
-import event_companions.copies
+import event_companions.beside.copies
 moves = []
 def stopping(move):
     def moved(source, target):
@@ -138,8 +138,8 @@ def stopping(move):
             os._exit(9)
         return answer
     return moved
-event_companions.copies.move = stopping(event_companions.copies.move)
-event_companions.copies.exchange = stopping(event_companions.copies.exchange) if {in_one_step} else lambda *_: False
+event_companions.beside.copies.move = stopping(event_companions.beside.copies.move)
+event_companions.beside.copies.exchange = stopping(event_companions.beside.copies.exchange) if {in_one_step} else lambda *_: False
 from event_companions.prompt.main import main
 main()
 """

@@ -42,8 +42,8 @@ from scripts.models.plain_page import Page, standings_due
 from second_reading.plain_file import read
 
 # phone_rooms has put it on the path
-from event_companions.entries import Entries
-from event_companions.troubles import Troubles
+from event_companions.beside.entries import Entries
+from event_companions.beside.troubles import Troubles
 
 PAGES = pytest.mark.needs("slips with codes, and pages of phones", module="jinja2", package="python3-jinja2")
 
@@ -383,11 +383,11 @@ class Pages:
     """The pages over a file that the program reads."""
 
     def __init__(self, program, file, asks_both):
+        from event_companions.beside.reports import Reports
         from event_companions.phones.asked import hosts_of
         from event_companions.phones.cache import EventCache
         from event_companions.phones.score_queue import ScoreQueue
         from event_companions.phones.site import Site
-        from event_companions.reports import Reports
 
         self.file = file
         self.secret, self.cache, self.reports = (

@@ -40,7 +40,7 @@ from scripts.clients.serving import free_port, received, sent_whole
 from scripts.clients.waiting import comes
 
 # phone_rooms has put it on the path
-from event_companions.troubles import kept_troubles
+from event_companions.beside.troubles import kept_troubles
 
 pytestmark = [
     pytest.mark.needs("phones that are served", module="jinja2", package="python3-jinja2"),

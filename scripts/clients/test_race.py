@@ -217,7 +217,7 @@ class Phone:
         self.gateway, self.secret, self.name, self.number = gateway, secret, f"phone {number}", number
 
     def say(self, move):
-        from event_companions.lists import Match
+        from event_companions.core.lists import Match
         from scripts.clients.phone_rooms import address
 
         slip = move.slip

@@ -43,9 +43,9 @@ class RandomEvening:
 
     def __init__(self, program, companions, dice, room):
         sys.path.insert(0, companions)
-        from event_companions.program import Source
+        from event_companions.core.program import Source
+        from event_companions.core.turn import Turn
         from event_companions.prompt.desk import Desk
-        from event_companions.turn import Turn
 
         self.file, self.dice, self.program = f"{room}/e.event", dice, program
         self.sources = [Source(program.path, self.file, Turn(self.file, makes_file=True)) for _ in range(3)]
@@ -119,8 +119,8 @@ class RandomEvening:
 
     def hand_in(self, event, table, score):
         """As a phone does: the score goes to the program, and a report of it lies beside the event."""
-        from event_companions.reports import STORED, TIME, Report, Reports
-        from event_companions.score import Score
+        from event_companions.beside.reports import STORED, TIME, Report, Reports
+        from event_companions.core.score import Score
 
         number, said = len(event.stored), Score(*score)
         self.sources[2].report(number, str(table), said)

@@ -23,7 +23,7 @@ from scripts.clients.waiting import comes
 from second_reading.plain_event import FINISHED, Event
 
 # phone_rooms has put it on the path
-from event_companions.entries import Entries
+from event_companions.beside.entries import Entries
 
 pytestmark = [
     pytest.mark.needs("an event that is played by taps", command=BROWSERS, package="a browser (chromium)"),

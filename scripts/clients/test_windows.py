@@ -197,8 +197,8 @@ def test_the_event_that_another_window_makes_is_told(prompt, room):
 def test_who_goes_home_has_a_name(prompt, begun, companions):
     """Also if the prompt has shown no name yet."""
     sys.path.insert(0, companions)
-    from event_companions.reports import TIME, Report, Reports
-    from event_companions.score import Score
+    from event_companions.beside.reports import TIME, Report, Reports
+    from event_companions.core.score import Score
 
     one = prompt.terminal(begun)
     first, second, _ = read(begun).stored[0][0]

@@ -7,7 +7,7 @@ import sys
 import urllib.parse
 from typing import Callable, Optional
 
-from event_companions.program import Declined
+from event_companions.core.program import Declined
 
 PORT = 8080
 NOT_KNOWN = """\

@@ -9,10 +9,10 @@ from dataclasses import dataclass
 from functools import lru_cache
 from typing import Any, Callable, Dict, Iterable, Optional
 
+from event_companions.core.score import Score
 from event_companions.languages import DEFAULT, language_for, plain_in, quality_of
 from event_companions.phones.limits import origin_of
 from event_companions.phones.pages import REASONS, Reply, rendered
-from event_companions.score import Score
 
 MOST_BODY = 2048
 MOST_FIELDS = 12

@@ -5,11 +5,11 @@ import re
 from dataclasses import dataclass
 from typing import Optional
 
-from event_companions.codes import FIRST_SEAT, SECOND_SEAT
-from event_companions.lists import Match, Player
+from event_companions.beside.codes import FIRST_SEAT, SECOND_SEAT
+from event_companions.beside.reports import CALLS, CALLS_OFF, HOME, STAYS, WRONG
+from event_companions.core.lists import Match, Player
 from event_companions.phones.asked import Asked, Fields
 from event_companions.phones.cache import Snapshot
-from event_companions.reports import CALLS, CALLS_OFF, HOME, STAYS, WRONG
 
 
 @dataclass(frozen=True)

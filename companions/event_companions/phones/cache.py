@@ -7,19 +7,19 @@ import time
 from dataclasses import dataclass, field, replace
 from typing import Optional, Tuple
 
-from event_companions.clock import Clock, kept_clock
-from event_companions.event import Event
-from event_companions.lists import Match, Matches, Player, Players, Rounds, Standing, matches_by_player
-from event_companions.look import Look, look_of
-from event_companions.notes import Note, Notes
+from event_companions.beside.clock import Clock, kept_clock
+from event_companions.beside.look import Look, look_of
+from event_companions.beside.notes import Note, Notes
+from event_companions.beside.title import shown_text, title_of
+from event_companions.beside.troubles import Troubles
+from event_companions.core.event import Event
+from event_companions.core.lists import Match, Matches, Player, Players, Rounds, Standing, matches_by_player
+from event_companions.core.program import FAULTS, Source, Stamp
+from event_companions.core.reading import Unread, read_whole
+from event_companions.core.score import Score
+from event_companions.core.turn import Turn
 from event_companions.phones.kept_codes import KeptCodes
 from event_companions.phones.running import Running
-from event_companions.program import FAULTS, Source, Stamp
-from event_companions.reading import Unread, read_whole
-from event_companions.score import Score
-from event_companions.title import shown_text, title_of
-from event_companions.troubles import Troubles
-from event_companions.turn import Turn
 
 SECONDS_BETWEEN_LOOKS = 0.5
 SECONDS_BETWEEN_READINGS = 2.0

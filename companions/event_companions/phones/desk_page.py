@@ -6,15 +6,8 @@ import time
 from dataclasses import dataclass
 from typing import Optional
 
-from event_companions.codes import FIRST_SEAT
-from event_companions.languages import DEFAULT
-from event_companions.languages.marked import named
-from event_companions.lists import Match, Player
-from event_companions.phones.asked import Asked, Pages
-from event_companions.phones.cache import EventCache
-from event_companions.phones.pages import Reply, rendered, style_reply
-from event_companions.phones.site import Site, clock_shown
-from event_companions.reports import (
+from event_companions.beside.codes import FIRST_SEAT
+from event_companions.beside.reports import (
     CALLS,
     CALLS_OFF,
     HOME,
@@ -29,7 +22,14 @@ from event_companions.reports import (
     words_to_mend,
     words_to_store,
 )
-from event_companions.score import Score
+from event_companions.core.lists import Match, Player
+from event_companions.core.score import Score
+from event_companions.languages import DEFAULT
+from event_companions.languages.marked import named
+from event_companions.phones.asked import Asked, Pages
+from event_companions.phones.cache import EventCache
+from event_companions.phones.pages import Reply, rendered, style_reply
+from event_companions.phones.site import Site, clock_shown
 from event_companions.sheets.parts import own_page
 
 MOST_LATEST = 25

@@ -7,8 +7,8 @@ import socket
 import threading
 from typing import Any, Callable, Optional
 
+from event_companions.core.program import Declined
 from event_companions.phones.limits import ADDRESSES_OF_A_NETWORK, network_of, origin_of
-from event_companions.program import Declined
 
 NO_LIMIT = 1_000_000_000
 

@@ -5,8 +5,8 @@ import fcntl
 import os
 from typing import IO, Callable, Optional
 
-from event_companions.codes import Secret, keep_secret, kept_secret, path_of
-from event_companions.program import Declined
+from event_companions.beside.codes import Secret, keep_secret, kept_secret, path_of
+from event_companions.core.program import Declined
 
 STARTED = "Another event-phones serves {file} already. End it by Ctrl-C in its window first."
 

@@ -8,7 +8,9 @@ import sys
 import time
 from typing import Optional
 
-from event_companions.arguments import (
+from event_companions.beside.clock import Clock, keep_clock
+from event_companions.beside.codes import kept_secret, secret_for
+from event_companions.core.arguments import (
     add_program,
     address_word,
     count_word,
@@ -16,9 +18,7 @@ from event_companions.arguments import (
     place_word,
     port_word,
 )
-from event_companions.clock import Clock, keep_clock
-from event_companions.codes import kept_secret, secret_for
-from event_companions.program import Declined, ready
+from event_companions.core.program import Declined, ready
 
 COMMAND = "event-phones"
 PURPOSE = "scores from the players' phones, for an event of event_reporter"

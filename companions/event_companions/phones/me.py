@@ -4,10 +4,10 @@ from __future__ import annotations
 from dataclasses import dataclass
 from typing import Optional
 
-from event_companions.event import Event
-from event_companions.lists import Match, Player, Standing
+from event_companions.core.event import Event
+from event_companions.core.lists import Match, Player, Standing
+from event_companions.core.working import Totals, seen_by, totals_of
 from event_companions.phones.cache import Snapshot
-from event_companions.working import Totals, seen_by, totals_of
 
 # this many lines of the standings above and below the player's own
 LINES_AROUND = 2

@@ -7,9 +7,9 @@ from dataclasses import dataclass, field
 from functools import lru_cache, partial
 from typing import Any, Callable
 
+from event_companions.core.templates import templates_in
 from event_companions.languages import plain_in
 from event_companions.languages.marked import text_in
-from event_companions.templates import templates_in
 
 FOLDER = os.path.join(os.path.dirname(os.path.abspath(__file__)), "templates")
 TEMPLATES = templates_in(FOLDER)

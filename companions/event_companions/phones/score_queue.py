@@ -17,10 +17,10 @@ import time
 from dataclasses import dataclass, field
 from typing import Optional
 
-from event_companions.event import found_in
-from event_companions.lists import Rounds, rounds_of
-from event_companions.phones.running import Running
-from event_companions.program import (
+from event_companions.beside.troubles import Troubles
+from event_companions.core.event import found_in
+from event_companions.core.lists import Rounds, rounds_of
+from event_companions.core.program import (
     FAULTS,
     RESULTS,
     Declined,
@@ -31,10 +31,10 @@ from event_companions.program import (
     Stamp,
     serial_in,
 )
-from event_companions.program import UNSURE as MAY_PASS
-from event_companions.score import Score
-from event_companions.troubles import Troubles
-from event_companions.turn import Turn
+from event_companions.core.program import UNSURE as MAY_PASS
+from event_companions.core.score import Score
+from event_companions.core.turn import Turn
+from event_companions.phones.running import Running
 
 SECONDS_FOR_A_SCORE = 15.0
 SECONDS_BETWEEN_TRIES = 0.1

@@ -13,7 +13,10 @@ import urllib.parse
 from dataclasses import replace
 from typing import Any, Callable
 
-from event_companions.codes import Secret
+from event_companions.beside.codes import Secret
+from event_companions.beside.reports import Reports
+from event_companions.beside.troubles import ENDED, Troubles
+from event_companions.core.program import Declined
 from event_companions.phones.addresses import address_chosen, is_of_this_machine_alone
 from event_companions.phones.asked import hosts_of
 from event_companions.phones.cache import SECONDS_BETWEEN_READINGS, EventCache
@@ -27,9 +30,6 @@ from event_companions.phones.score_queue import (
     ScoreQueue,
 )
 from event_companions.phones.site import REPORTS, Site
-from event_companions.program import Declined
-from event_companions.reports import Reports
-from event_companions.troubles import ENDED, Troubles
 
 THREADS, THREADS_OF_THE_DESK = MOST_WAITING + 32, 4
 MOST_CONNECTIONS, MOST_CONNECTIONS_OF_ONE = 700, 24

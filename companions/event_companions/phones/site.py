@@ -9,32 +9,10 @@ from dataclasses import dataclass, replace
 from email.utils import formatdate
 from typing import Any, Callable, Hashable, Optional
 
-from event_companions.clock import Clock
-from event_companions.codes import FIRST_SEAT, SECOND_SEAT, TABLE, Secret
-from event_companions.drawn import drawn_shown, rule_of_event, shut_now, text_of_round
-from event_companions.draws import Draws
-from event_companions.entries import Entries, NotEntered
-from event_companions.event import Event
-from event_companions.languages import Say, plain_in, say_in
-from event_companions.languages.marked import named, text_in
-from event_companions.lists import Match, Player
-from event_companions.names import found_by
-from event_companions.phones.asked import Asked, Environ, Pages, Settled, score_in, score_of
-from event_companions.phones.at_table import AtTable, Link, Typed, drops_in, link_in, said_in, typed_in
-from event_companions.phones.cache import EventCache, Snapshot
-from event_companions.phones.kept_pages import KeptPages, Shown
-from event_companions.phones.limits import Crowded, DelayQueues, OriginBuckets, TokenBuckets, origin_of
-from event_companions.phones.me import in_playoff_of, me_of
-from event_companions.phones.pages import (
-    Reply,
-    rendered,
-    style_reply,
-    tag_of,
-)
-from event_companions.phones.score_queue import Answer, NotNow, ScoreQueue
-from event_companions.program import Refusal
-from event_companions.records import records_now
-from event_companions.reports import (
+from event_companions.beside.clock import Clock
+from event_companions.beside.codes import FIRST_SEAT, SECOND_SEAT, TABLE, Secret
+from event_companions.beside.entries import Entries, NotEntered
+from event_companions.beside.reports import (
     CALLS,
     CALLS_OFF,
     HOME,
@@ -53,11 +31,33 @@ from event_companions.reports import (
     half_said,
     judge_call,
 )
-from event_companions.rosters import tidy
-from event_companions.score import Score
+from event_companions.core.event import Event
+from event_companions.core.lists import Match, Player
+from event_companions.core.names import found_by
+from event_companions.core.program import Refusal
+from event_companions.core.records import records_now
+from event_companions.core.rosters import tidy
+from event_companions.core.score import Score
+from event_companions.core.stages import HEADINGS, slot_said, stage_name
+from event_companions.core.working import part_shown, share_shown, working_of
+from event_companions.draw.drawn import drawn_shown, rule_of_event, shut_now, text_of_round
+from event_companions.draw.draws import Draws
+from event_companions.languages import Say, plain_in, say_in
+from event_companions.languages.marked import named, text_in
+from event_companions.phones.asked import Asked, Environ, Pages, Settled, score_in, score_of
+from event_companions.phones.at_table import AtTable, Link, Typed, drops_in, link_in, said_in, typed_in
+from event_companions.phones.cache import EventCache, Snapshot
+from event_companions.phones.kept_pages import KeptPages, Shown
+from event_companions.phones.limits import Crowded, DelayQueues, OriginBuckets, TokenBuckets, origin_of
+from event_companions.phones.me import in_playoff_of, me_of
+from event_companions.phones.pages import (
+    Reply,
+    rendered,
+    style_reply,
+    tag_of,
+)
+from event_companions.phones.score_queue import Answer, NotNow, ScoreQueue
 from event_companions.sheets.parts import records_before
-from event_companions.stages import HEADINGS, slot_said, stage_name
-from event_companions.working import part_shown, share_shown, working_of
 
 MOST_FOUND = 20
 # a page on which nothing is entered loads itself again

@@ -7,9 +7,10 @@ import os
 import re
 from typing import Optional
 
-from event_companions.event import Phase
-from event_companions.names import begun, visible
-from event_companions.program import FAULTS, Declined, NoAnswer, Refusal, Refused, Source
+from event_companions.core.event import Phase
+from event_companions.core.names import begun, visible
+from event_companions.core.program import FAULTS, Declined, NoAnswer, Refusal, Refused, Source
+from event_companions.core.wording import counted
 from event_companions.prompt.again import Again
 from event_companions.prompt.drawing import Drawing
 from event_companions.prompt.entering import Entering
@@ -41,7 +42,6 @@ from event_companions.prompt.texts import (
     PLAYOFF,
 )
 from event_companions.sheets.parts import PARTS
-from event_companions.wording import counted
 
 # the command line's words for what is shorter here, and other spellings; they are taken, and not offered
 ALIASES = ("result", "correct", "slips", "playoff", "exit", "enroll")

@@ -11,10 +11,15 @@ import tempfile
 from dataclasses import dataclass, replace
 from typing import Iterator, Optional
 
-from event_companions.checking import copies_before, differing_tables, keys_of, opened, paired_copy
-from event_companions.clock import MOST_MINUTES
-from event_companions.copies import Copy
-from event_companions.draw import (
+from event_companions.beside.clock import MOST_MINUTES
+from event_companions.beside.copies import Copy
+from event_companions.core.checking import copies_before, differing_tables, keys_of, opened, paired_copy
+from event_companions.core.event import Phase, shown_player
+from event_companions.core.lists import Matches, players_of
+from event_companions.core.names import visible
+from event_companions.core.program import FAULTS, Declined, Refusal, Refused, Source
+from event_companions.core.wording import counted, ranges
+from event_companions.draw.draw import (
     NONE,
     DrawText,
     Lists,
@@ -27,15 +32,10 @@ from event_companions.draw import (
     shown_digits,
     tables_of,
 )
-from event_companions.draws import Kept, differences
-from event_companions.event import Phase, shown_player
-from event_companions.lists import Matches, players_of
-from event_companions.names import visible
-from event_companions.program import FAULTS, Declined, Refusal, Refused, Source
+from event_companions.draw.draws import Kept, differences
 from event_companions.prompt.lines import minutes_of, unbroken
 from event_companions.prompt.rounds import Rounds
 from event_companions.prompt.session import Session
-from event_companions.wording import counted, ranges
 
 MINUTES = re.compile(r"(.*?)\s*\b([0-9]{1,4}\s*(?:m|min|mins|minutes))", re.I)
 DRAW = """\

@@ -1,15 +1,15 @@
 """The word `entries`: names that players enter by phone before they are enrolled."""
 from __future__ import annotations
 
-from event_companions.codes import kept_secret
-from event_companions.entries import Entries, Entry
-from event_companions.names import visible
-from event_companions.program import Declined
+from event_companions.beside.codes import kept_secret
+from event_companions.beside.entries import Entries, Entry
+from event_companions.core.names import visible
+from event_companions.core.program import Declined
+from event_companions.core.rosters import tidy
+from event_companions.core.wording import counted
 from event_companions.prompt.lines import numbers_in
 from event_companions.prompt.players import Players
 from event_companions.prompt.session import Session
-from event_companions.rosters import tidy
-from event_companions.wording import counted
 
 OFF = """\
 Players can't enter their names now. To have them do it by phone, once

@@ -7,18 +7,20 @@ import re
 import time
 from typing import Optional
 
-from event_companions.checking import fault_of, opened
-from event_companions.clock import Clock, keep_clock, kept_clock, start_clock, stop_clock
-from event_companions.codes import path_of as path_of_secret
-from event_companions.copies import Copy
-from event_companions.entries import Entries
-from event_companions.event import Event, Phase, read_or_none
-from event_companions.files import move, time_stamp
-from event_companions.holding import held_by_nobody
-from event_companions.lists import Bracket, Players, Rounds
-from event_companions.names import visible
-from event_companions.plan import plan_of, usual_rounds
-from event_companions.program import FAULTS, Declined, Refused
+from event_companions.beside.clock import Clock, keep_clock, kept_clock, start_clock, stop_clock
+from event_companions.beside.codes import path_of as path_of_secret
+from event_companions.beside.copies import Copy
+from event_companions.beside.entries import Entries
+from event_companions.beside.title import keep_title
+from event_companions.core.checking import fault_of, opened
+from event_companions.core.event import Event, Phase, read_or_none
+from event_companions.core.files import move, time_stamp
+from event_companions.core.holding import held_by_nobody
+from event_companions.core.lists import Bracket, Players, Rounds
+from event_companions.core.names import visible
+from event_companions.core.plan import plan_of, usual_rounds
+from event_companions.core.program import FAULTS, Declined, Refused
+from event_companions.core.rosters import written_list
 from event_companions.prompt.lines import minutes_of, numbers_in, unbroken
 from event_companions.prompt.session import Command, Session
 from event_companions.prompt.since import (
@@ -31,8 +33,6 @@ from event_companions.prompt.since import (
     rounds_since,
 )
 from event_companions.prompt.texts import UNDO
-from event_companions.rosters import written_list
-from event_companions.title import keep_title
 
 
 class Evening:

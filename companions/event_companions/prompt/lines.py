@@ -11,11 +11,11 @@ import textwrap
 import threading
 from typing import Callable, Iterator, Optional, Protocol
 
-from event_companions.clock import MOST_MINUTES
-from event_companions.names import visible
-from event_companions.program import Declined
+from event_companions.beside.clock import MOST_MINUTES
+from event_companions.core.names import visible
+from event_companions.core.program import Declined
+from event_companions.core.score import Score
 from event_companions.prompt.offers import Offers
-from event_companions.score import Score
 
 try:
     import readline

@@ -3,9 +3,9 @@ from __future__ import annotations
 
 import os
 
-from event_companions.event import shown_player
-from event_companions.exports import final_csv, final_ranking, playoff_csv, results_csv, standings_csv
-from event_companions.program import Declined
+from event_companions.core.event import shown_player
+from event_companions.core.exports import final_csv, final_ranking, playoff_csv, results_csv, standings_csv
+from event_companions.core.program import Declined
 from event_companions.prompt.lines import numbers_in
 from event_companions.prompt.session import Session
 

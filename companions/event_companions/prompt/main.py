@@ -6,11 +6,11 @@ import io
 import sys
 from typing import NoReturn, Optional
 
-from event_companions.arguments import add_program, port_word, status_of
-from event_companions.program import Declined, Source, ready
+from event_companions.core.arguments import add_program, port_word, status_of
+from event_companions.core.program import Declined, Source, ready
+from event_companions.core.turn import Turn
 from event_companions.prompt.desk import Desk
 from event_companions.prompt.texts import ALL_COMMANDS
-from event_companions.turn import Turn
 
 COMMAND = "event-desk"
 PURPOSE = "a prompt for the scorekeeper of a Magic Swiss tournament"

@@ -6,14 +6,9 @@ import threading
 import time
 from typing import Iterable, Optional
 
-from event_companions.codes import FIRST_SEAT, SECOND_SEAT
-from event_companions.entries import Entries
-from event_companions.event import Event, Progress, shown_player
-from event_companions.lists import Match, Players
-from event_companions.program import FAULTS, Source, Stamp
-from event_companions.prompt.lines import WIDTH
-from event_companions.prompt.session import Session, own_fault, prompt_at
-from event_companions.reports import (
+from event_companions.beside.codes import FIRST_SEAT, SECOND_SEAT
+from event_companions.beside.entries import Entries
+from event_companions.beside.reports import (
     CALLS,
     CALLS_OFF,
     OTHER,
@@ -25,9 +20,14 @@ from event_companions.reports import (
     words_to_mend,
     words_to_store,
 )
-from event_companions.troubles import ENDED, Told, kept_troubles
-from event_companions.turn import Turn
-from event_companions.wording import counted, ranges
+from event_companions.beside.troubles import ENDED, Told, kept_troubles
+from event_companions.core.event import Event, Progress, shown_player
+from event_companions.core.lists import Match, Players
+from event_companions.core.program import FAULTS, Source, Stamp
+from event_companions.core.turn import Turn
+from event_companions.core.wording import counted, ranges
+from event_companions.prompt.lines import WIDTH
+from event_companions.prompt.session import Session, own_fault, prompt_at
 
 SECONDS_BETWEEN_NEWS = 1.0
 SECONDS_TO_END = 2.0

@@ -5,8 +5,8 @@ import glob
 from dataclasses import dataclass
 from typing import Callable, Iterable, List
 
-from event_companions.lists import Player
-from event_companions.names import found_by, plain, visible
+from event_companions.core.lists import Player
+from event_companions.core.names import found_by, plain, visible
 
 # these words are followed by a player
 OF_PLAYERS = ("drop", "who")

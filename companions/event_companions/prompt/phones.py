@@ -1,16 +1,9 @@
 """The word `phones`: what came in from the players' phones and has to be looked at."""
 from __future__ import annotations
 
-from event_companions.codes import FIRST_SEAT
-from event_companions.event import shown_player
-from event_companions.lists import Match, Player
-from event_companions.names import visible
-from event_companions.notes import MOST_LETTERS, note_of
-from event_companions.program import Declined
-from event_companions.prompt.lines import numbers_in
-from event_companions.prompt.news import home_said, judge_said
-from event_companions.prompt.session import Session, tables_named
-from event_companions.reports import (
+from event_companions.beside.codes import FIRST_SEAT
+from event_companions.beside.notes import MOST_LETTERS, note_of
+from event_companions.beside.reports import (
     WRONG,
     HalfSaid,
     TwoScores,
@@ -23,7 +16,14 @@ from event_companions.reports import (
     words_to_mend,
     words_to_store,
 )
-from event_companions.troubles import kept_troubles
+from event_companions.beside.troubles import kept_troubles
+from event_companions.core.event import shown_player
+from event_companions.core.lists import Match, Player
+from event_companions.core.names import visible
+from event_companions.core.program import Declined
+from event_companions.prompt.lines import numbers_in
+from event_companions.prompt.news import home_said, judge_said
+from event_companions.prompt.session import Session, tables_named
 
 NO_NOTE = f"""\
 Type up to {MOST_LETTERS} letters after the table, as: note 7 +5 min

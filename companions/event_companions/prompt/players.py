@@ -6,19 +6,27 @@ import difflib
 import re
 from typing import Optional
 
-from event_companions.event import Event, Phase, shown_player
-from event_companions.lists import Player
-from event_companions.names import all_but_the_first, compared, found_by, listed, plain, visible
-from event_companions.program import Declined
+from event_companions.beside.shown_names import ShownName
+from event_companions.core.event import Event, Phase, shown_player
+from event_companions.core.lists import Player
+from event_companions.core.names import all_but_the_first, compared, found_by, listed, plain, visible
+from event_companions.core.program import Declined
+from event_companions.core.replaying import Change
+from event_companions.core.rosters import (
+    Roster,
+    path_and_codec,
+    read_list,
+    roster_of,
+    tidy,
+    why_not,
+    written_list,
+)
+from event_companions.core.stages import slot_shown
+from event_companions.core.wording import counted
+from event_companions.core.working import Working, part_shown, share_shown, working_of
 from event_companions.prompt.lines import unbroken
 from event_companions.prompt.replays import play_again
 from event_companions.prompt.session import Command, Session
-from event_companions.replaying import Change
-from event_companions.rosters import Roster, path_and_codec, read_list, roster_of, tidy, why_not, written_list
-from event_companions.shown_names import ShownName
-from event_companions.stages import slot_shown
-from event_companions.wording import counted
-from event_companions.working import Working, part_shown, share_shown, working_of
 
 # this many names of which a list didn't tell the last one are shown
 MOST_GUESSES = 8

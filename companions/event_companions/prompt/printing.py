@@ -6,11 +6,11 @@ import re
 import shutil
 import subprocess
 
-from event_companions.look import look_of
-from event_companions.names import visible
-from event_companions.program import Declined
+from event_companions.beside.look import look_of
+from event_companions.core.names import visible
+from event_companions.core.program import Declined
+from event_companions.core.reading import Unread, read_whole
 from event_companions.prompt.session import Session
-from event_companions.reading import Unread, read_whole
 from event_companions.sheets.files import NEXT_OF_SHEETS, must_write, page_beside
 from event_companions.sheets.making import PACKAGE, Wanted, page_maker
 from event_companions.sheets.parts import PARTS

@@ -1,11 +1,11 @@
 """How a word of the prompt has the event played again."""
 from __future__ import annotations
 
-from event_companions.plan import Plan, plan_of
-from event_companions.program import Declined
+from event_companions.core.plan import Plan, plan_of
+from event_companions.core.program import Declined
+from event_companions.core.replaying import Change, Course, played_again
 from event_companions.prompt.lines import unbroken
 from event_companions.prompt.session import Session
-from event_companions.replaying import Change, Course, played_again
 
 
 def plan_now(session: Session) -> Plan:

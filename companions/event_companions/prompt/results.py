@@ -4,15 +4,15 @@ from __future__ import annotations
 import re
 from typing import Optional
 
-from event_companions.doubts import Doubt
-from event_companions.event import Phase
-from event_companions.lists import Match
-from event_companions.names import begun
-from event_companions.program import Declined, Refusal, Refused
+from event_companions.beside.doubts import Doubt
+from event_companions.core.event import Phase
+from event_companions.core.lists import Match
+from event_companions.core.names import begun
+from event_companions.core.program import Declined, Refusal, Refused
+from event_companions.core.score import Score
+from event_companions.core.stages import slot_shown
 from event_companions.prompt.lines import numbers_in, score_in, unbroken, with_score
 from event_companions.prompt.session import Command, Session
-from event_companions.score import Score
-from event_companions.stages import slot_shown
 
 
 DRAWS = """\

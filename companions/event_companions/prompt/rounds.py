@@ -6,7 +6,9 @@ import secrets
 import tempfile
 from typing import Optional
 
-from event_companions.checking import (
+from event_companions.beside.clock import kept_clock, start_clock, stop_clock
+from event_companions.beside.copies import Copy
+from event_companions.core.checking import (
     copies_before,
     differing_tables,
     keys_of,
@@ -15,14 +17,12 @@ from event_companions.checking import (
     paired_copy,
     standings_after,
 )
-from event_companions.clock import kept_clock, start_clock, stop_clock
-from event_companions.copies import Copy
-from event_companions.names import begun
-from event_companions.program import FAULTS, Declined, Refusal, Refused
+from event_companions.core.names import begun
+from event_companions.core.program import FAULTS, Declined, Refusal, Refused
+from event_companions.core.stages import slot_shown, words_of_slot
+from event_companions.core.wording import counted, ranges
 from event_companions.prompt.lines import minutes_in, minutes_of, numbers_in, score_in, unbroken, with_score
 from event_companions.prompt.session import Command, Session, tables_named
-from event_companions.stages import slot_shown, words_of_slot
-from event_companions.wording import counted, ranges
 
 PLAY = "play qf2 2 1, or play final 2 0"
 

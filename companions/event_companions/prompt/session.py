@@ -12,17 +12,20 @@ import traceback
 from dataclasses import dataclass
 from typing import Callable, Optional
 
-from event_companions.checking import copies_before, opened
-from event_companions.copies import Copies, Copy
-from event_companions.doubts import Doubt, Doubts
-from event_companions.draws import Draws
-from event_companions.event import Event, Phase, Progress, shown_player
-from event_companions.keys import Keys
-from event_companions.lists import Matches, Unreadable
-from event_companions.names import visible
-from event_companions.notes import Notes
-from event_companions.plan import plan_of
-from event_companions.program import (
+from event_companions.beside.copies import Copies, Copy
+from event_companions.beside.doubts import Doubt, Doubts
+from event_companions.beside.keys import Keys
+from event_companions.beside.notes import Notes
+from event_companions.beside.reports import Reports, TwoScores, settle, two_scores
+from event_companions.beside.second_place import SecondPlace
+from event_companions.beside.shown_names import ShownNames, with_shown_names
+from event_companions.beside.title import event_name
+from event_companions.core.checking import copies_before, opened
+from event_companions.core.event import Event, Phase, Progress, shown_player
+from event_companions.core.lists import Matches, Unreadable
+from event_companions.core.names import visible
+from event_companions.core.plan import plan_of
+from event_companions.core.program import (
     FAULTS,
     MOST_TRIES,
     SECONDS_BETWEEN_TRIES,
@@ -32,6 +35,9 @@ from event_companions.program import (
     Refused,
     Source,
 )
+from event_companions.core.stages import slot_shown, slot_typed
+from event_companions.core.wording import counted, ranges
+from event_companions.draw.draws import Draws
 from event_companions.prompt.lines import WIDTH, Input, unbroken
 from event_companions.prompt.texts import (
     BAD_SCORE_OF_PLAYOFF,
@@ -42,12 +48,6 @@ from event_companions.prompt.texts import (
     NOT_SWISS,
     REFUSALS,
 )
-from event_companions.reports import Reports, TwoScores, settle, two_scores
-from event_companions.second_place import SecondPlace
-from event_companions.shown_names import ShownNames, with_shown_names
-from event_companions.stages import slot_shown, slot_typed
-from event_companions.title import event_name
-from event_companions.wording import counted, ranges
 
 # neither `pair` nor `cut` goes on
 DEAD_ENDS = (Refusal.NO_PAIRING, Refusal.ROUNDS_NOT_DONE, Refusal.TOO_FEW_FOR_CUT)

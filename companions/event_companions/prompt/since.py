@@ -4,13 +4,13 @@ from __future__ import annotations
 from dataclasses import dataclass
 from typing import Iterator, Optional
 
-from event_companions.draws import Draws
-from event_companions.event import Event
-from event_companions.keys import Keys
-from event_companions.names import visible
-from event_companions.reports import words_to_store
-from event_companions.stages import slot_typed
-from event_companions.wording import counted
+from event_companions.beside.keys import Keys
+from event_companions.beside.reports import words_to_store
+from event_companions.core.event import Event
+from event_companions.core.names import visible
+from event_companions.core.stages import slot_typed
+from event_companions.core.wording import counted
+from event_companions.draw.draws import Draws
 
 # a line to type takes this many columns, before whose it is
 WIDTH_OF_A_LINE = 12

@@ -3,7 +3,7 @@ from __future__ import annotations
 
 from typing import Optional
 
-from event_companions.event import Phase
+from event_companions.core.event import Phase
 
 COMMANDS = """\
   17 2 1             the result of table 17: games won by the player who is

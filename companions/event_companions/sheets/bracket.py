@@ -4,11 +4,11 @@ from __future__ import annotations
 from dataclasses import dataclass, field
 from typing import Optional
 
-from event_companions.event import Event
+from event_companions.core.event import Event
+from event_companions.core.lists import Match, Matches, Player
+from event_companions.core.stages import HEADINGS
 from event_companions.languages import Say
-from event_companions.lists import Match, Matches, Player
 from event_companions.sheets.widths import width_of
-from event_companions.stages import HEADINGS
 
 BOX_WIDTH, GAP, LINE, PADDING, BETWEEN, TOP, CHAMPION_BELOW = 250, 40, 20, 12, 30, 34, 44
 NAME_ROOM, LETTER, SMALL_LETTER, SMALL_LINE = 140, 16, 11, 14

@@ -5,8 +5,8 @@ import contextlib
 import os
 import tempfile
 
-from event_companions.names import visible
-from event_companions.program import Declined
+from event_companions.core.names import visible
+from event_companions.core.program import Declined
 
 BEGINNING_OF_A_DATABASE = b"SQLite format 3\0"
 NEXT_OF_SHEETS = "Open it in a browser, and print it there: each part begins a page of its own."

@@ -7,12 +7,13 @@ import sys
 import time
 from typing import Callable, Optional
 
-from event_companions.arguments import add_program, status_of, tables_word
-from event_companions.event import Event
-from event_companions.look import look_of
-from event_companions.names import visible
-from event_companions.program import Declined, Source, ready
-from event_companions.reading import NoRound, Unread, read_whole
+from event_companions.beside.look import look_of
+from event_companions.core.arguments import add_program, status_of, tables_word
+from event_companions.core.event import Event
+from event_companions.core.names import visible
+from event_companions.core.program import Declined, Source, ready
+from event_companions.core.reading import NoRound, Unread, read_whole
+from event_companions.core.turn import Turn
 from event_companions.sheets.files import (
     NEXT_OF_BOARD,
     NEXT_OF_SHEETS,
@@ -22,7 +23,6 @@ from event_companions.sheets.files import (
 )
 from event_companions.sheets.making import PACKAGE, Wanted, page_maker
 from event_companions.sheets.parts import PARTS
-from event_companions.turn import Turn
 
 COMMAND = "event-sheets"
 PURPOSE = "sheets for the wall and a board for the screen, of an event of event_reporter"

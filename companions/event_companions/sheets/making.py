@@ -4,15 +4,15 @@ from __future__ import annotations
 from dataclasses import dataclass, replace
 from typing import Callable, Optional, Sequence
 
-from event_companions.clock import kept_clock
-from event_companions.codes import kept_secret
-from event_companions.event import Event
+from event_companions.beside.clock import kept_clock
+from event_companions.beside.codes import kept_secret
+from event_companions.beside.look import look_of
+from event_companions.beside.title import shown_text, title_of
+from event_companions.core.event import Event
+from event_companions.core.program import Declined
+from event_companions.core.reading import NoRound
 from event_companions.languages import say_in
-from event_companions.look import look_of
-from event_companions.program import Declined
-from event_companions.reading import NoRound
 from event_companions.sheets.parts import DEFAULT_PARTS
-from event_companions.title import shown_text, title_of
 
 # what is to be installed
 PACKAGE = "sudo apt-get install python3-jinja2"

@@ -11,14 +11,16 @@ from typing import Iterable, Optional
 
 from markupsafe import Markup
 
-from event_companions.clock import Clock
-from event_companions.codes import Secret
-from event_companions.drawn import shut_now
-from event_companions.event import Event
+from event_companions.beside.clock import Clock
+from event_companions.beside.codes import Secret
+from event_companions.beside.look import Look
+from event_companions.beside.notes import Note, Notes
+from event_companions.core.event import Event
+from event_companions.core.templates import templates_in
+from event_companions.core.wording import ranges
+from event_companions.draw.drawn import shut_now
 from event_companions.languages import DEFAULT, Say, say_in
 from event_companions.languages.marked import text_in
-from event_companions.look import Look
-from event_companions.notes import Note, Notes
 from event_companions.sheets.board import FOOT, HEIGHT, in_columns, layout_of
 from event_companions.sheets.colours import DARK, LIGHT, PRINTED, variables
 from event_companions.sheets.parts import (
@@ -32,8 +34,6 @@ from event_companions.sheets.parts import (
     part_of,
     reach_of,
 )
-from event_companions.templates import templates_in
-from event_companions.wording import ranges
 
 FOLDER = os.path.join(os.path.dirname(os.path.abspath(__file__)), "templates")
 TEMPLATES = templates_in(FOLDER)

@@ -4,21 +4,21 @@ from __future__ import annotations
 from dataclasses import dataclass, field, replace
 from typing import Iterable, Optional
 
-from event_companions.codes import TABLE, Secret, shown_code
-from event_companions.draw import shown_digits
-from event_companions.drawn import Shut, drawn_line, lines_below, rule_of_event, shut_now, text_of_round
-from event_companions.event import Event
-from event_companions.exports import Ranked, final_ranking
+from event_companions.beside.codes import TABLE, Secret, shown_code
+from event_companions.core.event import Event
+from event_companions.core.exports import Ranked, final_ranking
+from event_companions.core.lists import Match, Player, Standing, matches_by_player
+from event_companions.core.names import Listed, listed
+from event_companions.core.records import Record, records_of
+from event_companions.core.score import Score
+from event_companions.core.stages import slot_said
+from event_companions.core.working import is_complete, seen_by
+from event_companions.draw.draw import shown_digits
+from event_companions.draw.drawn import Shut, drawn_line, lines_below, rule_of_event, shut_now, text_of_round
 from event_companions.languages import DEFAULT, Say, say_in
-from event_companions.lists import Match, Player, Standing, matches_by_player
-from event_companions.names import Listed, listed
-from event_companions.records import Record, records_of
-from event_companions.score import Score
 from event_companions.sheets.bracket import Drawing, Tree
 from event_companions.sheets.squares import square_of
 from event_companions.sheets.widths import size_for
-from event_companions.stages import slot_said
-from event_companions.working import is_complete, seen_by
 
 DEFAULT_PARTS = ("players", "draw", "tables", "names", "slips", "standings", "bracket", "final")
 PARTS = (*DEFAULT_PARTS, "seats", "links", "champion")

@@ -7,7 +7,7 @@ import time
 from dataclasses import dataclass, field
 from typing import Callable, Optional
 
-from event_companions.event import Progress
+from event_companions.core.event import Progress
 from event_companions.prompt.lines import Input
 
 SECONDS_BETWEEN_LOOKS = 0.5

@@ -7,9 +7,9 @@ import shutil
 import subprocess
 import threading
 
+from event_companions.core.program import Source
 from event_companions.phones.door import NO_LIMIT, door_at
 from event_companions.phones.serving import server_of
-from event_companions.program import Source
 from event_companions.window.site import MOST_BODY, Window
 from event_companions.window.worker import Worker
 

@@ -15,18 +15,18 @@ from functools import lru_cache
 from http.cookies import CookieError, SimpleCookie
 from typing import Optional
 
+from event_companions.core.reading import Unread, read_whole
+from event_companions.core.rosters import DELIMITERS, columns_of, tidy
+from event_companions.core.templates import templates_in
 from event_companions.languages import DEFAULT
 from event_companions.phones.asked import Asked, Environ, Fields, Pages, Settled
 from event_companions.phones.pages import Reply
 from event_companions.prompt.printing import wanted_by
 from event_companions.prompt.texts import ALL_COMMANDS, UNDO
-from event_companions.reading import Unread, read_whole
-from event_companions.rosters import DELIMITERS, columns_of, tidy
 from event_companions.sheets.making import NOTHING, Wanted, page_maker
 from event_companions.sheets.page import policy as policy_of_board
 from event_companions.sheets.parts import PARTS
 from event_companions.sheets.squares import square_of
-from event_companions.templates import templates_in
 from event_companions.window.clicks import parted
 from event_companions.window.views import (
     DEFAULT_MINUTES,

@@ -5,19 +5,11 @@ import os
 from dataclasses import dataclass, field
 from typing import TYPE_CHECKING, Optional
 
-from event_companions.clock import Clock, kept_clock
-from event_companions.codes import FIRST_SEAT, Secret, kept_secret
-from event_companions.copies import Copy
-from event_companions.draw import Rule, shown_digits
-from event_companions.draws import Draws
-from event_companions.entries import Entries
-from event_companions.event import Event, Phase, Progress
-from event_companions.lists import Match, Player, Standing, matches_by_player
-from event_companions.names import visible
-from event_companions.plan import Plan, plan_of, usual_rounds
-from event_companions.program import FAULTS, Refused
-from event_companions.prompt.texts import REFUSALS
-from event_companions.reports import (
+from event_companions.beside.clock import Clock, kept_clock
+from event_companions.beside.codes import FIRST_SEAT, Secret, kept_secret
+from event_companions.beside.copies import Copy
+from event_companions.beside.entries import Entries
+from event_companions.beside.reports import (
     all_half_said,
     going_home,
     judge_calls,
@@ -25,11 +17,19 @@ from event_companions.reports import (
     words_to_mend,
     words_to_store,
 )
-from event_companions.score import Score
-from event_companions.stages import HEADINGS, slot_shown, slot_typed
-from event_companions.title import event_name
-from event_companions.troubles import kept_troubles
-from event_companions.wording import counted
+from event_companions.beside.title import event_name
+from event_companions.beside.troubles import kept_troubles
+from event_companions.core.event import Event, Phase, Progress
+from event_companions.core.lists import Match, Player, Standing, matches_by_player
+from event_companions.core.names import visible
+from event_companions.core.plan import Plan, plan_of, usual_rounds
+from event_companions.core.program import FAULTS, Refused
+from event_companions.core.score import Score
+from event_companions.core.stages import HEADINGS, slot_shown, slot_typed
+from event_companions.core.wording import counted
+from event_companions.draw.draw import Rule, shown_digits
+from event_companions.draw.draws import Draws
+from event_companions.prompt.texts import REFUSALS
 
 if TYPE_CHECKING:
     from event_companions.prompt.desk import Desk

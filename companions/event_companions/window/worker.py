@@ -9,9 +9,9 @@ import time
 from dataclasses import replace
 from typing import Callable, Iterator, Optional
 
-from event_companions.event import Progress
-from event_companions.names import visible
-from event_companions.program import FAULTS, Source
+from event_companions.core.event import Progress
+from event_companions.core.names import visible
+from event_companions.core.program import FAULTS, Source
 from event_companions.prompt.desk import Desk
 from event_companions.sheets.main import BESIDE
 from event_companions.window.clicks import Clicks, Entry, Over

@@ -10,8 +10,8 @@ import os
 import time
 from dataclasses import dataclass
 
-from event_companions.names import compared
-from event_companions.rosters import why_not
+from event_companions.core.names import compared
+from event_companions.core.rosters import why_not
 
 HEADING = "name,at,from\n"
 MOST_BYTES = 100_000

@@ -7,7 +7,7 @@ import os
 import re
 from typing import Optional
 
-from event_companions.files import kept_text, sync_folder
+from event_companions.core.files import kept_text, sync_folder
 
 LINE = re.compile(r"^round (\d+) ([0-9A-Fa-f]{64})( unused)?$", re.M)
 

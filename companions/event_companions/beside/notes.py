@@ -7,9 +7,9 @@ import re
 from dataclasses import dataclass
 from typing import Optional
 
-from event_companions.files import write_whole
-from event_companions.lists import Match, Matches
-from event_companions.names import visible
+from event_companions.core.files import write_whole
+from event_companions.core.lists import Match, Matches
+from event_companions.core.names import visible
 
 LINE = re.compile(r"^round (\d{1,2}) table (\d{1,3}) players (\d{1,3}) (\d{1,3}) (.*)$", re.M)
 MOST_LETTERS = 60

@@ -6,13 +6,13 @@ from __future__ import annotations
 from dataclasses import dataclass
 from typing import Optional
 
-from event_companions.draw import NONE, DrawText, Rule, shown_digits
-from event_companions.draws import Draws
-from event_companions.event import Event, shown_player
+from event_companions.core.event import Event, shown_player
+from event_companions.core.lists import Player, players_of
+from event_companions.core.names import begun
+from event_companions.core.program import Declined
+from event_companions.draw.draw import NONE, DrawText, Rule, shown_digits
+from event_companions.draw.draws import Draws
 from event_companions.languages import Say
-from event_companions.lists import Player, players_of
-from event_companions.names import begun
-from event_companions.program import Declined
 
 
 @dataclass(frozen=True)

@@ -10,7 +10,7 @@ import os
 import time
 from typing import Iterator, Optional
 
-from event_companions.program import MOST_TRIES, SECONDS_BETWEEN_TRIES, Declined
+from event_companions.core.program import MOST_TRIES, SECONDS_BETWEEN_TRIES, Declined
 
 # SQLite's pending, reserved and shared locks
 FIRST_BYTE, BYTES = 1 << 30, 512

@@ -9,8 +9,8 @@ from __future__ import annotations
 import os
 from dataclasses import dataclass, replace
 
-from event_companions.lists import Players, Row, cells_of, columns_of, lines_of, whole
-from event_companions.names import listed
+from event_companions.core.lists import Players, Row, cells_of, columns_of, lines_of, whole
+from event_companions.core.names import listed
 
 
 @dataclass(frozen=True, order=True)

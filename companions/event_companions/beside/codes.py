@@ -9,9 +9,9 @@ import secrets
 from dataclasses import dataclass, replace
 from typing import Optional
 
-from event_companions.files import sync_folder
-from event_companions.lists import Match, Player
-from event_companions.program import Declined
+from event_companions.core.files import sync_folder
+from event_companions.core.lists import Match, Player
+from event_companions.core.program import Declined
 
 # letters that nobody takes for digits, and that make no words (RFC 8628, section 6.1): 20 ** 8 codes
 LETTERS = "BCDFGHJKLMNPQRSTVWXZ"

@@ -3,8 +3,8 @@ from __future__ import annotations
 
 import os
 
-from event_companions.plan import plan_of
-from event_companions.turn import Turn
+from event_companions.core.plan import plan_of
+from event_companions.core.turn import Turn
 
 
 def title_of(file: str, turn: Turn) -> str:

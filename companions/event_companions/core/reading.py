@@ -4,8 +4,8 @@ from __future__ import annotations
 import time
 from typing import Callable, TypeVar
 
-from event_companions.event import Event
-from event_companions.program import (
+from event_companions.core.event import Event
+from event_companions.core.program import (
     FAULTS,
     SECONDS_BETWEEN_TRIES,
     Fault,

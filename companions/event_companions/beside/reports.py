@@ -8,8 +8,8 @@ import time
 from dataclasses import dataclass
 from typing import Optional
 
-from event_companions.lists import Match, Matches, Player, Players
-from event_companions.score import Score
+from event_companions.core.lists import Match, Matches, Player, Players
+from event_companions.core.score import Score
 
 # the program took it; it was stored already; another score was stored; it waits for the other seat; and the
 # scorekeeper has looked at the table

@@ -4,9 +4,9 @@ from __future__ import annotations
 from dataclasses import dataclass
 from typing import Iterator, Optional
 
-from event_companions.event import Event
-from event_companions.lists import Match, Rounds
-from event_companions.working import DRAWN, WON, is_complete, seen_by
+from event_companions.core.event import Event
+from event_companions.core.lists import Match, Rounds
+from event_companions.core.working import DRAWN, WON, is_complete, seen_by
 
 
 @dataclass(frozen=True)

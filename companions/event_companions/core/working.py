@@ -7,9 +7,9 @@ from dataclasses import dataclass, field
 from fractions import Fraction
 from typing import Optional, Sequence
 
-from event_companions.event import Event
-from event_companions.lists import Match, Player, Rounds, Standing
-from event_companions.score import Score
+from event_companions.core.event import Event
+from event_companions.core.lists import Match, Player, Rounds, Standing
+from event_companions.core.score import Score
 
 LEAST = Fraction(33, 100)
 WON, DRAWN = 3, 1

@@ -10,7 +10,7 @@ import tempfile
 from dataclasses import dataclass
 from typing import Optional
 
-from event_companions.turn import Turn
+from event_companions.core.turn import Turn
 
 
 # up to this many players this many rounds are usual; above, one more than the last

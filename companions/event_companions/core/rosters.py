@@ -12,8 +12,8 @@ import unicodedata
 from dataclasses import dataclass, field
 from typing import Iterator, List, Optional, Sequence
 
-from event_companions.names import compared, listed, may_lead_earlier, visible
-from event_companions.program import Declined
+from event_companions.core.names import compared, listed, may_lead_earlier, visible
+from event_companions.core.program import Declined
 
 ALONE = ("name", "player", "player name", "full name")
 FIRST = ("first name", "first", "firstname", "given name", "forename")

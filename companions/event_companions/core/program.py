@@ -11,7 +11,7 @@ import time
 from dataclasses import replace
 from typing import Callable, NamedTuple, Optional, TypeVar, Union
 
-from event_companions.lists import (
+from event_companions.core.lists import (
     Bracket,
     Matches,
     Players,
@@ -24,9 +24,9 @@ from event_companions.lists import (
     rounds_of,
     standings_of,
 )
-from event_companions.names import visible
-from event_companions.score import Score
-from event_companions.turn import Turn
+from event_companions.core.names import visible
+from event_companions.core.score import Score
+from event_companions.core.turn import Turn
 
 # another program may have the file for a moment, a board that reads it above all
 MOST_TRIES = 6
@@ -115,7 +115,9 @@ def serial_in(answer: str) -> int:
 
 
 def checkout() -> str:
-    return os.path.dirname(os.path.dirname(os.path.dirname(os.path.realpath(__file__))))
+    """The folder above the one in which the packages are: of a checkout, its top."""
+    packages = os.path.dirname(os.path.dirname(os.path.dirname(os.path.realpath(__file__))))
+    return os.path.dirname(packages)
 
 
 def built() -> str:

@@ -7,7 +7,7 @@ import re
 from dataclasses import dataclass, field
 from typing import Dict, Iterator, List, Optional
 
-from event_companions.score import Score
+from event_companions.core.score import Score
 
 Row = Dict[str, str]
 

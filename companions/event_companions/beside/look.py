@@ -7,8 +7,8 @@ import re
 from dataclasses import dataclass, field, replace
 from typing import Callable, Dict, Optional
 
+from event_companions.beside.title import shown_text
 from event_companions.languages import DEFAULT, LANGUAGES
-from event_companions.title import shown_text
 
 ACCENT = "#d9a400"
 MOST_BYTES, MOST_BYTES_OF_A_LOGO = 4_000, 200_000

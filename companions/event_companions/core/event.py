@@ -6,13 +6,13 @@ from dataclasses import dataclass, replace
 from functools import cached_property
 from typing import Optional
 
-from event_companions.doubts import Doubts, with_doubts
-from event_companions.lists import Bracket, Match, Matches, Player, Players, Rounds, Standing
-from event_companions.names import sort_key, visible
-from event_companions.plan import Plan, plan_of
-from event_companions.program import FAULTS, Source
-from event_companions.score import Score
-from event_companions.shown_names import ShownNames
+from event_companions.beside.doubts import Doubts, with_doubts
+from event_companions.beside.shown_names import ShownNames
+from event_companions.core.lists import Bracket, Match, Matches, Player, Players, Rounds, Standing
+from event_companions.core.names import sort_key, visible
+from event_companions.core.plan import Plan, plan_of
+from event_companions.core.program import FAULTS, Source
+from event_companions.core.score import Score
 
 
 class Phase(enum.Enum):

@@ -8,9 +8,9 @@ import subprocess
 import sys
 from typing import Any, Callable
 
-from event_companions.clock import MOST_MINUTES
-from event_companions.program import Declined, program_beside
-from event_companions.reading import Unread
+from event_companions.beside.clock import MOST_MINUTES
+from event_companions.core.program import Declined, program_beside
+from event_companions.core.reading import Unread
 
 
 def port_word(text: str) -> int:

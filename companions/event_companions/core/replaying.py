@@ -14,17 +14,17 @@ import tempfile
 from dataclasses import dataclass, replace
 from typing import Callable, Iterator, Optional
 
-from event_companions.checking import copies_before, differing_tables, keys_of, opened
-from event_companions.copies import Copies, Copy
-from event_companions.event import Event, Phase, shown_player
-from event_companions.files import has_log
-from event_companions.keys import Keys
-from event_companions.lists import Bracket, Match, Matches, Players, Rounds
+from event_companions.beside.copies import Copies, Copy
+from event_companions.beside.keys import Keys
+from event_companions.core.checking import copies_before, differing_tables, keys_of, opened
+from event_companions.core.event import Event, Phase, shown_player
+from event_companions.core.files import has_log
+from event_companions.core.lists import Bracket, Match, Matches, Players, Rounds
+from event_companions.core.plan import Plan, plan_of
+from event_companions.core.program import FAULTS, Declined, Refusal, Refused, Source
+from event_companions.core.rosters import written_list
+from event_companions.core.turn import Turn
 from event_companions.phones.score_queue import LEAST_AT_ONCE, SECONDS_FOR_SERVE_TO_END, Waiting, hand_over
-from event_companions.plan import Plan, plan_of
-from event_companions.program import FAULTS, Declined, Refusal, Refused, Source
-from event_companions.rosters import written_list
-from event_companions.turn import Turn
 
 # a file system in memory, where no command waits for a disk
 IN_MEMORY = "/dev/shm"

@@ -10,14 +10,14 @@ import time
 from dataclasses import dataclass
 from typing import Optional
 
-from event_companions.draws import Draws
-from event_companions.files import copy_synced, exchange, has_log, move, remove_with_log, time_stamp
-from event_companions.holding import held_by_nobody
-from event_companions.lists import Players
-from event_companions.names import visible
-from event_companions.program import MOST_TRIES, SECONDS_BETWEEN_TRIES, Declined
-from event_companions.stages import slot_shown
-from event_companions.turn import Turn
+from event_companions.core.files import copy_synced, exchange, has_log, move, remove_with_log, time_stamp
+from event_companions.core.holding import held_by_nobody
+from event_companions.core.lists import Players
+from event_companions.core.names import visible
+from event_companions.core.program import MOST_TRIES, SECONDS_BETWEEN_TRIES, Declined
+from event_companions.core.stages import slot_shown
+from event_companions.core.turn import Turn
+from event_companions.draw.draws import Draws
 
 
 # how many copies are kept that are from before something else than a round or the cut

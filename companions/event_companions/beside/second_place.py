@@ -10,8 +10,8 @@ import shutil
 from dataclasses import dataclass
 from typing import Optional
 
-from event_companions.copies import Copy
-from event_companions.files import copy_folder_synced, copy_synced, sync_folder
+from event_companions.beside.copies import Copy
+from event_companions.core.files import copy_folder_synced, copy_synced, sync_folder
 
 # what the companions keep beside an event, and what a scorekeeper needs to go on from a copy
 BESIDE = ("keys", "names", "doubts", "title", "look", "clock", "phones", "reports", "notes", "draws")

@@ -9,9 +9,9 @@ import itertools
 from dataclasses import dataclass
 from typing import Iterable, Optional, Sequence
 
-from event_companions.event import Event
-from event_companions.lists import Match, Player, Players, Rounds
-from event_companions.records import Record, records_of
+from event_companions.core.event import Event
+from event_companions.core.lists import Match, Player, Players, Rounds
+from event_companions.core.records import Record, records_of
 
 
 def csv_of(heading: Sequence[str], rows: Iterable[Sequence[object]]) -> str:

@@ -13,7 +13,10 @@ from dataclasses import dataclass
 from functools import lru_cache
 from typing import Match, Optional
 
-from event_companions.draw import (
+from event_companions.core.files import copy_folder_synced, kept_text, move, replace_synced, sync_folder
+from event_companions.core.lists import Matches, players_of, rounds_of
+from event_companions.core.program import Declined
+from event_companions.draw.draw import (
     BEFORE_THE_FIRST,
     NONE,
     NUMBER,
@@ -26,9 +29,6 @@ from event_companions.draw import (
     rule_of,
     text_of,
 )
-from event_companions.files import copy_folder_synced, kept_text, move, replace_synced, sync_folder
-from event_companions.lists import Matches, players_of, rounds_of
-from event_companions.program import Declined
 
 LINE = re.compile(rf"round ([1-9][0-9]?) ({NUMBER})(?: by ([0-9 ]+))?")
 NAME = re.compile(r"round-([1-9][0-9]?)-([1-9][0-9]{0,3})\.(txt|shut)")

@@ -10,10 +10,10 @@ import tempfile
 from dataclasses import dataclass
 from typing import Iterator, Optional
 
-from event_companions.copies import Copies, Copy
-from event_companions.keys import Keys
-from event_companions.lists import Matches, Rounds, pairings_of
-from event_companions.program import FAULTS, Source
+from event_companions.beside.copies import Copies, Copy
+from event_companions.beside.keys import Keys
+from event_companions.core.lists import Matches, Rounds, pairings_of
+from event_companions.core.program import FAULTS, Source
 
 
 @contextlib.contextmanager

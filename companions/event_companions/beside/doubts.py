@@ -7,9 +7,9 @@ from __future__ import annotations
 import re
 from dataclasses import dataclass, replace
 
-from event_companions.files import kept_text, write_whole
-from event_companions.lists import Match, Rounds
-from event_companions.score import Score
+from event_companions.core.files import kept_text, write_whole
+from event_companions.core.lists import Match, Rounds
+from event_companions.core.score import Score
 
 LINE = re.compile(r"^round (\d+) table (\d+) score ([0-9]{1,9}-[0-9]{1,9}-[0-9]{1,9})$", re.M)
 

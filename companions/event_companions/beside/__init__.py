@@ -1,0 +1,1 @@
+"""What lies beside FILE, a module for each ending."""
