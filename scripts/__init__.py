@@ -1,4 +1,4 @@
-"""The Python of the scripts. Each module is run from the top of the repository by its whole name: `python3 -B -m scripts.clients.slow_clients`."""
+"""The Python of the scripts. Each module is run from the top of the repository by its whole name: `python3 -B -m tests.faults.slow_clients`."""
 import os
 import re
 import subprocess

@@ -10,7 +10,7 @@ import subprocess
 import tempfile
 
 from scripts.bench.evenings import enrolled, played, seed, to_the_champion
-from scripts.words import PROGRAM, Word, given_by
+from tests.support.words import PROGRAM, Word, given_by
 
 WITHOUT_REP = {**os.environ, "GLIBC_TUNABLES": "glibc.cpu.hwcaps=-ERMS,-FSRM"}
 ROUNDS = 9

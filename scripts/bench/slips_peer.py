@@ -1,6 +1,6 @@
 """Slips over HTTP by Python's `http.server` and `sqlite3`, as an engineer might write them in an hour, to time the program beside. It answers
 GET /standings and POST /rounds/ROUND/tables/TABLE from an event's file, which it reads anew for each request. Shares are whole numbers over a
-common denominator, so the standings are exact. They are worked out here and not by the model of scripts/models on purpose: the model is slow, and
+common denominator, so the standings are exact. They are worked out here and not by the plain reading on purpose: that one is slow, and
 this is to be as fast as it is easily made.
 """
 import argparse

@@ -7,7 +7,7 @@ import sys
 import time
 
 from scripts.bench.evenings import enrolled, played, to_the_champion
-from scripts.words import Word, given_by
+from tests.support.words import Word, given_by
 
 CASES = {
     "512 enrolments": enrolled(512, 9),

@@ -11,9 +11,9 @@ import tempfile
 import time
 
 from scripts import TOP
-from scripts.clients.serving import Serving, received, sent_whole
-from scripts.words import PROGRAM, Word, given_by
 from second_reading.plain_event import Event
+from tests.support.serving import Serving, received, sent_whole
+from tests.support.words import PROGRAM, Word, given_by
 
 PLAYERS, ROUNDS = 512, 9
 SCORES = [(2, 0, 0), (1, 2, 0), (2, 1, 0), (0, 2, 0), (1, 1, 1)]

@@ -16,7 +16,7 @@ import tempfile
 import threading
 import time
 
-from scripts.clients.phone_rooms import (
+from tests.support.phone_rooms import (
     SCORES,
     Gateway,
     address,
@@ -26,11 +26,11 @@ from scripts.clients.phone_rooms import (
     spread,
     targets,
 )
-from scripts.clients.program import Program
-from scripts.clients.proxies import Proxied, command_of
-from scripts.clients.random_evenings import STARTED, evening, laid, report_round
-from scripts.clients.tally import check, end, left_out
-from scripts.words import PROGRAM, Word, given_by
+from tests.support.program import Program
+from tests.support.proxies import Proxied, command_of
+from tests.support.random_evenings import STARTED, evening, laid, report_round
+from tests.support.tally import check, end, left_out
+from tests.support.words import PROGRAM, Word, given_by
 
 SECONDS, SILENT = 60, 900
 # connections of the phone that asks for the board again and again, and requests through a proxy

@@ -17,7 +17,7 @@ import time
 
 from scripts import TOP
 
-sys.path.insert(0, f"{TOP}/extras/tests")
+sys.path.insert(0, f"{TOP}/tests/unit")
 
 from event_companions.beside.clock import Clock, keep_clock  # noqa: E402
 from event_companions.beside.codes import Secret, keep_secret  # noqa: E402
@@ -31,10 +31,10 @@ from event_companions.phones.cache import EventCache  # noqa: E402
 from event_companions.phones.pages import style  # noqa: E402
 from event_companions.phones.site import Site  # noqa: E402
 from event_companions.sheets.making import Wanted, page_maker  # noqa: E402
-from from_model import FromModel  # noqa: E402
-from scripts.clients.random_evenings import play_bracket, report_round  # noqa: E402
-from scripts.clients.sheets import BROWSERS  # noqa: E402
 from second_reading.plain_event import Event as Played  # noqa: E402
+from tests.support.from_model import FromModel  # noqa: E402
+from tests.support.random_evenings import play_bracket, report_round  # noqa: E402
+from tests.support.sheets import BROWSERS  # noqa: E402
 
 SCREENS = (1280, 720), (1920, 1080), (3840, 2160)
 COUNTS = 8, 37, 128, 512

@@ -12,10 +12,10 @@ import sys
 import tempfile
 
 from scripts import TOP
-from scripts.clients.tour import BLOCK, TOURS, Tour, is_left_out, steps_of
-from scripts.clients.transcripts import sent
-from scripts.models import plain_program
-from scripts.models.plain_script import Script
+from tests.support import plain_program
+from tests.support.plain_script import Script
+from tests.support.tour import BLOCK, TOURS, Tour, is_left_out, steps_of
+from tests.support.transcripts import sent
 
 SHOWN = (
     "README.md",

@@ -1,0 +1,1 @@
+"""Rounds that dice draw, and what checks them."""

@@ -1,0 +1,1 @@
+"""The program by command lines, scripts and HTTP."""

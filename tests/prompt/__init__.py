@@ -1,0 +1,1 @@
+"""The scorekeeper's prompt, in one window and in several."""
