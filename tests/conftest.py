@@ -17,7 +17,6 @@ import time
 
 import pytest
 
-from scripts import TOP, commit_time
 from second_reading.plain_event import Event
 from tests.suites import PARTS, steps_of
 from tests.support.program import Program
@@ -25,6 +24,7 @@ from tests.support.random_evenings import laid
 from tests.support.serving import Serving
 from tests.support.sheets import BROWSERS, Sheets
 from tests.support.waiting import comes
+from tools import TOP, commit_time
 
 # helpers in which an `assert` is a check too
 pytest.register_assert_rewrite("tests.support.prompt", "tests.support.phone_rooms")

@@ -11,7 +11,7 @@ import subprocess
 import sys
 import tempfile
 
-from scripts import TOP, commit_time
+from tools import TOP, commit_time
 
 BUILT = "crates/event_reporter/out/event_reporter"
 # words of a line: what stands for what is given, and of two numbers the second with --long
@@ -89,7 +89,7 @@ PARTS = {
         "program/test_tour.py",
         "program/test_random_events.py",
         "program/test_file_events.py",
-        module("scripts.models.answers", "--check"),
+        module("tools.answers", "--check"),
     ),
     "csv": (
         "program/test_csv.py",
@@ -143,13 +143,13 @@ PARTS = {
 
 @contextlib.contextmanager
 def compiled():
-    """The modules of the companions, of the tests and of the scripts, compiled once for all that is started: nothing is left in the checkout, so each start would do it
+    """The modules of the companions, of the tests and of the tools, compiled once for all that is started: nothing is left in the checkout, so each start would do it
     anew, which takes three times as long as the rest of it.
     """
     with tempfile.TemporaryDirectory() as kept:
         os.environ["PYTHONPYCACHEPREFIX"] = kept
         subprocess.run(
-            [python(), "-m", "compileall", "-q", "companions", "scripts", "tests"],
+            [python(), "-m", "compileall", "-q", "companions", "tests", "tools"],
             cwd=TOP,
             check=True,
         )

@@ -9,7 +9,6 @@ import tempfile
 
 import pytest
 
-from scripts import TOP
 from second_reading import plain_draw
 from second_reading.plain_event import printed
 from tests.support.drawn_evenings import begun, changes, drawn_evening, text_bytes
@@ -17,6 +16,7 @@ from tests.support.random_evenings import HOSTILE
 from tests.support.sheets import BROWSERS
 from tests.support.taps import Browser, Phone
 from tests.support.waiting import PATIENCE, comes
+from tools import TOP
 
 CASES = {"case": (6, 300)}
 CHANGES = 10_000
@@ -49,7 +49,7 @@ def asked(*cases):
     for it in words:
         it["texts"] = [base64.b64encode(text).decode() for text in it["texts"]]
     ran = subprocess.run(
-        ["node", "-e", ASK, f"{TOP}/extras/check_page/core.js"],
+        ["node", "-e", ASK, f"{TOP}/tools/check_page/core.js"],
         input=json.dumps(words),
         capture_output=True,
         text=True,
@@ -226,7 +226,7 @@ def test_a_name_is_a_text_and_no_markup(page):
 
 def test_it_sends_nothing_and_is_its_sources():
     ran = subprocess.run(
-        [sys.executable, "-B", "-m", "scripts.package.check_page"], cwd=TOP, capture_output=True, text=True
+        [sys.executable, "-B", "-m", "tools.check_page.make"], cwd=TOP, capture_output=True, text=True
     )
     assert (ran.returncode, ran.stderr) == (0, "")
     with open(f"{TOP}/docs/check.html", encoding="utf-8") as it:

@@ -7,7 +7,6 @@ import sys
 
 import pytest
 
-from scripts import TOP
 from second_reading import event_check
 from second_reading.plain_csv import players_rows, results_rows, written
 from second_reading.plain_draw import (
@@ -26,6 +25,7 @@ from tests.support.drawn_evenings import begun, can_be_paired, changes, drawn_ev
 from tests.support.prompt import unfilled
 from tests.support.random_evenings import laid, report_round
 from tests.support.waiting import PATIENCE
+from tools import TOP
 
 CASES = {"case": (25, 1000)}
 SEVEN = [f"P{number}" for number in range(1, 8)]

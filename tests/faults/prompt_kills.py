@@ -9,7 +9,6 @@ import subprocess
 import tempfile
 import time
 
-from scripts import TOP
 from second_reading.plain_event import Event
 from second_reading.plain_file import read
 from tests.support.event_files import rows_alone, rows_of
@@ -17,6 +16,7 @@ from tests.support.prompt import LETTERS, Prompt, keys_of, unfilled, where_due
 from tests.support.tally import check, dice_of, end
 from tests.support.waiting import comes
 from tests.support.words import PROGRAM, SEED, Word, given_by
+from tools import TOP
 
 KILLED = [f"enrol P{it}" for it in range(1, 6)] + [
     "start",

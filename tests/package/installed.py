@@ -4,8 +4,8 @@ import hashlib
 import os
 import subprocess
 
-from scripts import TOP
-from scripts.package.listed import LINK
+from tools import TOP
+from tools.package.listed import LINK
 
 COMPANIONS = sorted(map(os.path.basename, glob.glob(f"{TOP}/companions/bin/event-*")))
 COMMANDS = ["event_reporter", *COMPANIONS]

@@ -9,9 +9,9 @@ import shutil
 import tempfile
 import time
 
-from scripts import TOP
 from tests.package.installed import COMMANDS, run
 from tests.support.tally import check, end, left_out
+from tools import TOP
 
 # the oldest systems that have the glibc which the program needs, the newest Debian, and one that must refuse it
 SYSTEMS = {"bookworm": True, "trixie": True, "jammy": True, "bullseye": False}

@@ -12,12 +12,13 @@ import tempfile
 
 import pytest
 
-import scripts
-from scripts import TOP
-from scripts.package import debian, manuals, release
-from scripts.package.listed import entries
-from scripts.package.made_from import PROGRAM
+import tools
 from tests.package.installed import COMMANDS, COMPANIONS, SECONDS, described, files_below, run
+from tools import TOP
+from tools import manuals
+from tools.package import debian, release
+from tools.package.listed import entries
+from tools.package.made_from import PROGRAM
 
 pytestmark = pytest.mark.needs("the package", command="dpkg-deb")
 EVENING = "init Friday Night 2 2\nimport names.csv\ny\nstart\npair\n1 2 0\n2 2 1\npair\n1 2 0\n2 1 1 1\ncut\ny\nplay 1 1 2 0\n"
@@ -59,7 +60,7 @@ def unpacked(place, released):
 def test_twice_the_same_bytes(place, released):
     for ran in released:
         assert (ran.returncode, ran.stderr) == (0, "")
-    names, version = sorted(os.listdir(f"{place}/0")), scripts.version()
+    names, version = sorted(os.listdir(f"{place}/0")), tools.version()
     assert names == [
         "SHA256SUMS",
         f"event-reporter-{version}-x86_64-linux.tar.gz",
@@ -111,7 +112,7 @@ def test_install(unpacked, room):
     ran = run(f"{prefix}/bin/event-desk", "--version", env={"PATH": os.environ["PATH"]})
     assert (ran.returncode, ran.stdout) == (
         0,
-        f"event-desk (event_reporter) {scripts.version()}\n",
+        f"event-desk (event_reporter) {tools.version()}\n",
     ), "it runs"
     assert run("sh", f"{unpacked}/uninstall", prefix).returncode == 0, "uninstalled"
     assert list(os.walk(prefix)) == [(prefix, [], [])], "nothing is left"
@@ -208,9 +209,7 @@ def test_page(root, name):
     head = subprocess.run(
         ["gzip", "-dc", page], capture_output=True, text=True, check=True, timeout=SECONDS
     ).stdout.split("\n")[0]
-    assert re.findall(r'^\.TH \S+ 1 "\d{4}-\d\d-\d\d" "(.*?)"', head) == [
-        f"event_reporter {scripts.version()}"
-    ]
+    assert re.findall(r'^\.TH \S+ 1 "\d{4}-\d\d-\d\d" "(.*?)"', head) == [f"event_reporter {tools.version()}"]
 
 
 @pytest.mark.needs("pages as they are shown", command="man")

@@ -7,9 +7,9 @@ import subprocess
 
 import pytest
 
-import scripts
-from scripts import TOP
+import tools
 from tests.package.installed import COMPANIONS
+from tools import TOP
 
 
 def printed(*words):
@@ -22,22 +22,22 @@ def printed(*words):
 
 
 def test_program(program):
-    assert printed(program.path, "--version") == (0, f"event_reporter {scripts.version()}\n")
+    assert printed(program.path, "--version") == (0, f"event_reporter {tools.version()}\n")
 
 
 # event-check calls no program, so it has no version to print
 @pytest.mark.parametrize("name", [it for it in COMPANIONS if it != "event-check"])
 def test_companion(program, name):
     words = (f"{TOP}/companions/bin/{name}", "--program", program.path, "--version")
-    assert printed(*words) == (0, f"{name} (event_reporter) {scripts.version()}\n")
+    assert printed(*words) == (0, f"{name} (event_reporter) {tools.version()}\n")
 
 
 def test_changes():
     with open(f"{TOP}/CHANGELOG.md", encoding="utf-8") as file:
         heads = re.findall(r"^## (\d\S*)|Version (\d\S*) ", file.read(), re.M)
-    assert heads[0] == ("", scripts.version())
+    assert heads[0] == ("", tools.version())
 
 
 def test_no_other_file_has_it():
-    found = printed("git", "grep", "-lF", scripts.version(), "--", ".", ":!CHANGELOG.md")[1].split()
+    found = printed("git", "grep", "-lF", tools.version(), "--", ".", ":!CHANGELOG.md")[1].split()
     assert found == ["crates/er_cli/src/help.rt"]

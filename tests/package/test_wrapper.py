@@ -12,8 +12,8 @@ import sys
 
 import pytest
 
-from scripts import TOP
 from tests.support.waiting import PATIENCE, comes
+from tools import TOP
 
 PROGRAM = "crates/event_reporter/out/event_reporter"
 STAND_IN = '#!/bin/sh\necho "ran $#: $*"\n[ "${1:-}" != refused ] || { echo "refused 14 AlreadyReported" >&2; exit 1; }\n[ "${1:-}" != read ] || cat\n'
@@ -72,10 +72,10 @@ class Checkout:
             shutil.copy(f"{TOP}/{name}", f"{self.top}/{name}")
         for name in SOURCES:
             write(f"{self.top}/crates/{name}", "")
-        for name in ("scripts/__init__.py", "scripts/gate/__init__.py"):
+        for name in ("tools/__init__.py", "tools/gate/__init__.py"):
             write(f"{self.top}/{name}", "")
-        shutil.copy(f"{TOP}/scripts/gate/first.py", f"{self.top}/scripts/gate/first.py")
-        write(f"{self.top}/scripts/gate/build.py", BUILD)
+        shutil.copy(f"{TOP}/tools/gate/first.py", f"{self.top}/tools/gate/first.py")
+        write(f"{self.top}/tools/gate/build.py", BUILD)
         write(f"{room}/toolchain/rt", "#!/bin/sh\n", 0o755)
         os.makedirs(f"{room}/bin")
         for name in TOOLS:

@@ -11,7 +11,6 @@ import subprocess
 
 import pytest
 
-from scripts.clients import pictures
 from tests.support.plain_page import (
     bracket_due,
     final_due,
@@ -24,6 +23,7 @@ from tests.support.plain_page import (
 from tests.support.random_evenings import COMPLETE, ENDED, HOSTILE, IN_PLAYOFF, OPEN, STARTED, evening, laid
 from tests.support.sheets import BROWSERS
 from tests.support.waiting import PATIENCE
+from tools import pictures
 
 pytestmark = pytest.mark.needs("sheets and boards", module="jinja2", package="python3-jinja2")
 

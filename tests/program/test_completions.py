@@ -6,9 +6,9 @@ import subprocess
 
 import pytest
 
-from scripts import TOP
 from tests.support import subcommands
 from tests.support.waiting import PATIENCE
+from tools import TOP
 
 
 @pytest.fixture

@@ -15,7 +15,6 @@ import tempfile
 
 import pytest
 
-from scripts import TOP
 from second_reading.plain_event import Event
 from tests.support.event_files import (
     as_nobody,
@@ -36,6 +35,7 @@ from tests.support.schema import PLAYER2
 from tests.support.serving import Serving, hear_interrupts, served
 from tests.support.transcripts import parts_of
 from tests.support.waiting import PATIENCE
+from tools import TOP
 
 
 def words_of(line, file):

@@ -5,8 +5,8 @@ import sys
 
 import pytest
 
-from scripts import TOP
 from tests.support.waiting import PATIENCE
+from tools import TOP
 
 PAGES = pytest.mark.needs("scripts that draw pages", module="jinja2", package="python3-jinja2")
 
@@ -26,8 +26,8 @@ def modules_in(folder):
     return [f"{folder.replace('/', '.')}.{name}" for name in names if not name.startswith(("test_", "__"))]
 
 
-FOLDERS = "scripts/bench", "scripts/clients", "tests/faults", "tests/support"
-MODULES = [it for folder in FOLDERS for it in modules_in(folder)]
+FOLDERS = "tools/bench", "tests/faults", "tests/support"
+MODULES = ["tools.pictures", *(it for folder in FOLDERS for it in modules_in(folder))]
 TAKE_WORDS = [
     it
     for it in MODULES

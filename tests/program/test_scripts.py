@@ -13,12 +13,12 @@ import time
 
 import pytest
 
-from scripts import TOP, version
 from second_reading.chacha20 import words_of
 from tests.support import subcommands
 from tests.support.event_files import bytes_of
 from tests.support.transcripts import parts_of
 from tests.support.waiting import PATIENCE
+from tools import TOP, version
 
 VERSION = f"event_reporter {version()}\n".encode()
 

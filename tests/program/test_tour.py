@@ -7,8 +7,8 @@ import re
 
 import pytest
 
-from scripts import TOP
 from tests.support.tour import BLOCK, TOURS, Tour, is_left_out, steps_of
+from tools import TOP
 
 
 @pytest.fixture
@@ -40,7 +40,7 @@ DOCUMENTS = sorted(
         "docs/*.md",
         "companions/*.md",
         "scripts/*.md",
-        "scripts/*/*.md",
+        "tools/*/*.md",
         "tests/*.md",
         "tests/*/*.md",
     )

@@ -1,9 +1,9 @@
 """The key of each round, and whether a round is the one that its key gives: at the prompt by the copy, and by a second reading without the program."""
 import subprocess
 
-from scripts import TOP
 from tests.support.prompt import check_said, keys_of
 from tests.support.waiting import PATIENCE
+from tools import TOP
 
 
 def checked(program, file):

@@ -8,10 +8,10 @@ import sys
 
 import pytest
 
-from scripts import TOP
 from second_reading.plain_file import read
 from tests.support.prompt import LETTERS, TypedEvening, check_said
 from tests.support.waiting import PATIENCE
+from tools import TOP
 
 # the evening that README shows, whose lines are typed behind a prompt
 EVENING = re.compile(r"(?<=^```\n\$ event-desk friday\.event\n)(.*?)(?=^```)", re.M | re.S)

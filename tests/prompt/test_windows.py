@@ -9,12 +9,12 @@ import time
 
 import pytest
 
-from scripts import TOP
 from second_reading.plain_event import Event
 from second_reading.plain_file import read
 from tests.support.prompt import check_said, unfilled
 from tests.support.random_evenings import laid
 from tests.support.waiting import PATIENCE
+from tools import TOP
 
 NAMES = "Ana Lima", "Bo Sato", "Cy Young", "Di Ito"
 POST = b'POST /rounds/1/tables/2 HTTP/1.1\r\nContent-Length: 19\r\n\r\n{"a":2,"b":0,"d":0}'

@@ -13,10 +13,10 @@ import sys
 import threading
 import time
 
-from scripts import TOP
 from tests.support.program import Program
 from tests.support.serving import free_port
 from tests.support.waiting import PATIENCE
+from tools import TOP
 
 from event_companions.beside.codes import keep_secret, kept_secret, secret_for
 from event_companions.beside.reports import TIME, Report, Reports

@@ -6,10 +6,10 @@ import shutil
 import socket
 import subprocess
 
-from scripts import TOP
 from tests.support.phone_rooms import Gateway
 from tests.support.serving import free_port
 from tests.support.waiting import comes
+from tools import TOP
 
 # the name in that document, and where its proxies find event-phones
 NAME, BEHIND = "scores.example.org", "127.0.0.1:8080"

@@ -7,9 +7,9 @@ import re
 import shutil
 import subprocess
 
-from scripts import TOP
 from tests.support.serving import free_port
 from tests.support.waiting import PATIENCE
+from tools import TOP
 
 # documents whose lines are typed, each after the one before it in one folder
 TOURS = (("README.md",), ("docs/COMMANDS.md", "docs/REPAIR.md"))

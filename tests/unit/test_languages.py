@@ -6,8 +6,8 @@ import sys
 
 import pytest
 from event_companions.languages import DEFAULT, FOLDER, LANGUAGES, TABLES, language_for, missing_in
-from scripts import TOP
-from scripts.package import languages
+from tools import TOP
+from tools import languages
 
 
 def braces(text):

@@ -1,0 +1,195 @@
+"""Proves the crates that the program stands on and then the program, the lowest first, with all processors, and builds it. It says on
+standard error which crate it is at. Rattle's own compiler takes less than a minute, so that its program is there first. LLVM's, which is faster, takes
+its place.
+
+In a fresh checkout all is proved from nothing, as by `rt ci`: each crate over what those below it state, and over none of their proofs. What a
+crate came to is kept with what it was made from: its sources, the toolchain, and the libraries below as they were written. A later build takes
+it while these are the same. If checks have kept work in a crate's folder, that is used. `rt lib` in one crate's folder would keep the crates
+below to itself until it ends, so that no two got on side by side; here the folders are taken once, for all.
+"""
+import concurrent.futures
+import contextlib
+import copy
+import json
+import os
+import shutil
+import sys
+import tempfile
+
+from tools import TOP
+from tools.gate import toolchain
+
+rt = toolchain.load()
+
+
+class Crate(rt.Crate):
+    """A crate as `rt ci` takes it, but that a library isn't asked for contracts which no call meets, and that the program of one compiler is kept."""
+
+    def prove_library(self, flags):
+        shutil.rmtree(os.path.dirname(self.rlib), ignore_errors=True)
+        os.makedirs(os.path.dirname(self.rlib))
+        return self.call(
+            rt.rtlib.RATTLE, "build", *self.words(flags, keeps=False), "--statements", "-o", self.rlib
+        )
+
+    def prove(self, *commands):
+        """Over work that checks have kept there is no verdict, as `rt ci` wants one; each command has to end well all the same."""
+        if self.cuts_libraries:
+            return super().prove(*commands)
+        return max(self.call(rt.rtlib.RATTLE, *it) for it in commands)
+
+    def compile_by(self, backend, words, to):
+        """Has each compiler's program take the place of the one that is there, first that of Rattle's own. What runs keeps its file."""
+        if backend == "rattle":
+            # it was there before LLVM's
+            return 0
+        self.replace_by(
+            "rattle", words, to, "the program can be run now. LLVM's takes its place in some minutes"
+        )
+        return self.replace_by("llvm", words, to, "the program is LLVM's")
+
+    def replace_by(self, backend, words, to, said):
+        """Says that there is a program by this compiler, if there is one, and puts it there."""
+        status = super().compile_by(backend, words, f"{to}.new")
+        made = f"{self.folder}/{to}.new{rt.BACKENDS[backend]}"
+        if status == 0 and os.path.isfile(made):
+            print(f"event_reporter: {said}", file=sys.stderr, flush=True)
+            os.replace(made, f"{self.folder}/{to}")
+        with contextlib.suppress(FileNotFoundError):
+            os.remove(f"{made}.o")
+        return status
+
+    def product(self):
+        """The file by which it is seen that its library or the program was made, and is still the one that was."""
+        return f"{self.folder}/out/{self.name}" if self.is_program else f"{self.rlib}/format"
+
+    def made_from(self):
+        """What its library or the program is made from, and what was made."""
+        made = [os.stat(it.product()) for it in [*self.below(), self]]
+        return [
+            self.stamp(),
+            rt.rtlib.text_of(f"{TOP}/HANDLES"),
+            *([it.st_size, it.st_mtime_ns] for it in made),
+        ]
+
+    def keep(self, said):
+        """Keeps what the toolchain said of it, for as long as it would say it again."""
+        with open(f"{self.folder}/out/made.json", "w", encoding="utf-8") as it:
+            json.dump({"from": self.made_from(), "said": said}, it)
+
+    def said_before(self):
+        """What the toolchain said when this was made, or None if anything is not as it was then."""
+        try:
+            with open(f"{self.folder}/out/made.json", encoding="utf-8") as it:
+                kept = json.load(it)
+            return kept["said"] if kept["from"] == self.made_from() else None
+        except (OSError, ValueError, KeyError):
+            return None
+
+
+def height(crate, wanted):
+    """The text of the crate and of the longest way above it."""
+    return crate.count(rb"\n") + max((height(it, wanted) for it in wanted if crate in it.below()), default=0)
+
+
+def prove(crate, jobs, is_anew):
+    """Whether the crate is proved, and what the toolchain said of it."""
+    crate = copy.copy(crate)
+    if crate.is_program and (said := crate.said_before()) is not None:
+        return crate.name, True, said
+    with tempfile.TemporaryFile("a+", errors="replace") as crate.out:
+        os.makedirs(f"{crate.folder}/out", exist_ok=True)
+        # the program is a few functions over all libraries, and each process reads them all
+        flags = ["--jobs", "1" if crate.is_program else str(jobs)]
+        if crate.is_program:
+            status = crate.ci(flags, False)
+        elif is_anew:
+            status = crate.prove_library(flags)
+        else:
+            status = crate.build_rlib(flags, anew=False)
+        crate.out.seek(0)
+        said = crate.out.read()
+        if status == 0 and (is_anew or crate.is_program):
+            crate.keep(said)
+        return crate.name, status == 0, said
+
+
+def shares(ready, idle):
+    """How many of the idle processors each of these crates gets: one each, and the first what is left of them, at least half."""
+    if not ready or not idle:
+        return []
+    others = min(len(ready) - 1, idle // 2)
+    return [idle - others] + [1] * others
+
+
+def are_ready(left, proved):
+    """Those of which everything below is proved."""
+    return [it for it in left if proved.issuperset(below.name for below in it.below())]
+
+
+def take_kept(left, proved):
+    """Takes those that are made from what they were made from before. Of what stands above one that is proved anew, nothing is taken."""
+    asked = set()
+    while ready := [it for it in are_ready(left, proved) if it not in asked]:
+        for crate in ready:
+            asked.add(crate)
+            said = crate.said_before()
+            if said is not None:
+                print(f"== {crate.name}\n{said}", end="", flush=True)
+                left.remove(crate)
+                proved.add(crate.name)
+
+
+def prove_all(wanted, is_anew):
+    """Proves the crates, first those with the most text above them."""
+    heights = {it: height(it, wanted) for it in wanted}
+    left = sorted(wanted, key=lambda it: -heights[it])
+    proved, running = set(), {}
+    if is_anew:
+        take_kept(left, proved)
+        if proved:
+            print(
+                f"event_reporter: {len(proved)} of {len(wanted)} are as they were when they were proved",
+                file=sys.stderr,
+                flush=True,
+            )
+    started = len(proved)
+    with concurrent.futures.ThreadPoolExecutor(rt.processors()) as lanes:
+        while len(proved) < len(wanted):
+            ready = are_ready(left, proved)
+            for crate, jobs in zip(ready, shares(ready, rt.processors() - sum(running.values()))):
+                left.remove(crate)
+                started += 1
+                print(
+                    f"event_reporter: proving {crate.name}, {started} of {len(wanted)}",
+                    file=sys.stderr,
+                    flush=True,
+                )
+                running[lanes.submit(prove, crate, jobs, is_anew)] = jobs
+            for it in concurrent.futures.wait(running, return_when=concurrent.futures.FIRST_COMPLETED).done:
+                del running[it]
+                name, is_proved, said = it.result()
+                print(f"== {name}\n{said}", end="", flush=True)
+                if not is_proved:
+                    sys.exit(f"event_reporter: could not prove {name}")
+                proved.add(name)
+
+
+def main():
+    os.chdir(TOP)
+    os.environ.pop(rt.rtlib.ALLOW_C, None)
+    rt.rtlib.guarded()
+    rt.rtlib.Crate = Crate
+    crates = rt.rtlib.crates_below(TOP)
+    program = next(it for it in crates if it.name == sys.argv[1])
+    is_anew = not any(it.has_kept() for it in program.below())
+    Crate.allowed, Crate.cuts_libraries = rt.handles_of(TOP), is_anew
+    wanted = [*program.below(), program]
+    held = rt.rtlib.lock(wanted)
+    prove_all(wanted, is_anew)
+    for it in held:
+        os.close(it)
+
+
+if __name__ == "__main__":
+    main()
