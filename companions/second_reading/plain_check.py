@@ -18,11 +18,11 @@ CORRECTED = "Where a score of an earlier round was corrected since, this can't b
 def keys_of(text):
     """The keys of each round, but for those that are marked as unused. A round that was paired again after `back` has several."""
     lines = re.findall(r"^round (\d+) ([0-9A-Fa-f]{64})( unused)?$", text, re.M)
-    unused = {(number, key) for number, key, mark in lines if mark}
+    unused = {(round_number, key) for round_number, key, mark in lines if mark}
     keys = {}
-    for number, key, mark in lines:
-        if not mark and (number, key) not in unused:
-            keys.setdefault(int(number), []).append(bytes.fromhex(key))
+    for round_number, key, mark in lines:
+        if not mark and (round_number, key) not in unused:
+            keys.setdefault(int(round_number), []).append(bytes.fromhex(key))
     return keys
 
 
@@ -74,13 +74,13 @@ def verdict(rounds, number, keys):
 def verdicts(results, keys):
     """A line for each round. Results are (round, table, a, b, score or None), as the list has them."""
     rounds = []
-    for number, _, a, b, score in results:
-        if number > len(rounds):
+    for round_number, _, a, b, score in results:
+        if round_number > len(rounds):
             rounds.append([])
         rounds[-1].append((a, b, score))
     return [
-        f"round {number}: {verdict(rounds, number, keys.get(number, []))}"
-        for number in range(1, len(rounds) + 1)
+        f"round {round_number}: {verdict(rounds, round_number, keys.get(round_number, []))}"
+        for round_number in range(1, len(rounds) + 1)
     ]
 
 

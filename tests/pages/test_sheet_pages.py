@@ -51,6 +51,8 @@ from tests.support.waiting import PATIENCE, comes
 
 CASES = {"number": (12, 400)}
 SIZES = [2, 3, 4, 5, 8, 9, 11, 16, 23, 24, 31, 50, 65, 128]
+# a score as a client of `serve` hands it in
+POST = b'POST /rounds/1/tables/1 HTTP/1.1\r\nContent-Length: 19\r\n\r\n{"a":2,"b":0,"d":0}'
 
 
 def check_alone(text, page):
@@ -223,7 +225,7 @@ def test_names(sheets, program, room, dice):
 
 
 @pytest.mark.needs("sheets and boards", module="jinja2", package="python3-jinja2")
-def test_refused(sheets, program, room, dice, serve):
+def test_refused(sheets, program, room, dice, started, serve):
     """What is said if there is nothing to show. Nothing goes to the page then."""
     event = evening(dice, 4, COMPLETE, 3, 0)
     file = laid(program.path, f"{room}/e.event", event, "E")
@@ -240,8 +242,12 @@ def test_refused(sheets, program, room, dice, serve):
     for name, words, status, said in cases:
         got = sheets.printed(*words)
         assert (got[0], got[1], said in got[2]) == (status, "", True), f"refused, {name}"
-    serve(file, 1000)
-    status, text, errors = sheets.printed(file)
+    _, held = started("Ana", "Bo", "Cy", "Di", called="held")
+    program.run("pair", held, "1", "0" * 64)
+    serving = serve(held, 1000)
+    assert sheets.printed(held)[0] == 0, "held by serve, and its log has nothing"
+    assert serving.ask(POST).startswith(b"HTTP/1.1 200 "), "a score is handed in"
+    status, text, errors = sheets.printed(held)
     assert (status, text, "such as `serve`" in errors) == (3, "", True), "refused, held by serve"
     for name in ("--help", "--version"):
         status, text, errors = sheets.printed(file, name, env={**os.environ, "COLUMNS": "80"})

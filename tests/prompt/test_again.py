@@ -451,7 +451,7 @@ def test_scores_of_the_playoff_are_taken_back(prompt, program, played):
 # ---- killed in the middle of the exchange
 
 
-def test_killed_at_each_call_of_the_exchange(program, prompt, played, room, companions):
+def test_killed_at_each_call_of_the_exchange(program, prompt, played, room):
     """FILE is the old event or the new one, whole, and the next exchange works."""
     os.mkdir(f"{room}/new")
     new = f"{room}/new/e.event"
@@ -462,7 +462,7 @@ def test_killed_at_each_call_of_the_exchange(program, prompt, played, room, comp
         stop += 1
         file = f"{room}/{stop}.event"
         shutil.copy(played, file)
-        was_killed = exchange_is_killed(companions, file, new, stop)
+        was_killed = exchange_is_killed(file, new, stop)
         rows = rows_alone(file)
         assert rows in (old_rows, new_rows), f"killed before call {stop}"
         assert program.run("players", file)[0] == 0, f"killed before call {stop}, it opens"
@@ -476,6 +476,10 @@ def test_killed_at_each_call_of_the_exchange(program, prompt, played, room, comp
 def test_nothing_is_taken_back_while_serve_has_the_file(prompt, played, serve):
     rows = rows_of(read(played), "E")
     served = serve(played, 1)
-    check_said("declined", prompt.said(played, "plan 4 4"), "refused 25 Store")
+    text = prompt.said(played, "plan 4 4")
+    check_said(
+        "declined", text, "Another program has", "most often `serve` in another window", "End it by Ctrl-C"
+    )
+    assert "is played again" not in text
     served.kill()
     assert is_as_it_was(played, rows)

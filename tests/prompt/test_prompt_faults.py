@@ -135,7 +135,7 @@ def test_turns(prompt, program, room, started):
 
 
 def test_calls(prompt, program, room, started, stand_in):
-    """A result takes two command lines: what was said of an event is kept while no command comes."""
+    """A result takes one command line: what was said of an event is kept while no other command comes."""
     event, file = started(*(f"P{it}" for it in range(1, 9)))
     counting = stand_in(f'echo "$1" >> {room}/calls\nexec "$REAL" "$@"')
 
@@ -146,7 +146,7 @@ def test_calls(prompt, program, room, started, stand_in):
         return lines
 
     prompt.said(file, "pair", "1 2 0", "2 2 0", "3 2 0", by=counting)
-    assert calls()[-5:] == ["slips", "result", "slips", "result", "slips"], "calls for three results"
+    assert calls()[-5:] == ["slips", "export", "result", "result", "result"], "calls for three results"
     prompt.said(file, "standings", "standings", "round 1", "round 1", by=counting)
     assert len([it for it in calls() if it in ("standings", "slips")]) == 2, "nothing is asked twice"
     program.run("result", file, "1", "4", "2", "0", "0")

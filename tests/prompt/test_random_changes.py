@@ -6,7 +6,6 @@ The prompt's own module is called, and asks the program, so that hundreds of cha
 import contextlib
 import copy
 import io
-import sys
 import tempfile
 import time
 
@@ -41,8 +40,7 @@ class Answers:
 class RandomEvening:
     """An event at the prompt. What it is, is what the plain reading reads from its file."""
 
-    def __init__(self, program, companions, dice, room):
-        sys.path.insert(0, companions)
+    def __init__(self, program, dice, room):
         from event_companions.core.program import Source
         from event_companions.core.turn import Turn
         from event_companions.prompt.desk import Desk
@@ -239,9 +237,9 @@ class RandomEvening:
 
 
 @pytest.fixture
-def evening(program, companions, dice):
+def evening(program, dice):
     with tempfile.TemporaryDirectory(dir=IN_MEMORY) as room:
-        it = RandomEvening(program, companions, dice, room)
+        it = RandomEvening(program, dice, room)
         it.begin()
         yield it
 

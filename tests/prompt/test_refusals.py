@@ -3,7 +3,6 @@ the program.
 """
 import importlib
 import os
-import sys
 
 import pytest
 
@@ -191,9 +190,8 @@ def test_refusals_of_the_file(prompt, room, started, stand_in, serve, refused_by
     )
 
 
-def test_texts(companions):
+def test_texts():
     """Each refusal has its words, and all that stands fixed fits a terminal."""
-    sys.path.insert(0, companions)
     module = importlib.import_module("event_companions.prompt.texts")
     assert sorted(module.REFUSALS) == list(range(1, 31)), "refusals with words"
     texts = [

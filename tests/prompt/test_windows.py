@@ -4,7 +4,6 @@ never taken away under a program that has it.
 import os
 import re
 import subprocess
-import sys
 import time
 
 import pytest
@@ -194,9 +193,8 @@ def test_the_event_that_another_window_makes_is_told(prompt, room):
     assert one.end()[0] == 0
 
 
-def test_who_goes_home_has_a_name(prompt, begun, companions):
+def test_who_goes_home_has_a_name(prompt, begun):
     """Also if the prompt has shown no name yet."""
-    sys.path.insert(0, companions)
     from event_companions.beside.reports import TIME, Report, Reports
     from event_companions.core.score import Score
 
@@ -255,7 +253,10 @@ def test_rename_before_the_start_is_declined_while_serve_has_the_file(prompt, pr
         event.enrol(name)
     file = laid(program.path, f"{room}/e.event", event, "E")
     served = serve(file, 1)
-    check_said("declined", prompt.said(file, "rename 2 Bo Satoh"), "refused 25 Store")
+    text = prompt.said(file, "rename 2 Bo Satoh")
+    check_said(
+        "declined", text, "Another program has", "most often `serve` in another window", "End it by Ctrl-C"
+    )
     served.kill()
     assert read(file).names == list(NAMES)
     check_said("then it goes on", prompt.said(file, "rename 2 Bo Satoh"), "Bo Sato (2) is Bo Satoh now.")

@@ -37,10 +37,6 @@ def text_of(stream):
 class InsidePrompt(Prompt):
     """Lines are typed at a prompt in this process; terminals and pipes are processes of their own."""
 
-    def __init__(self, program, desk):
-        super().__init__(program, desk)
-        sys.path.insert(0, os.path.dirname(os.path.dirname(desk)))
-
     def typed(self, file, *lines, by=None):
         from event_companions.prompt.main import main
 
@@ -142,9 +138,8 @@ def ends_killed(body):
     return status == KILLED
 
 
-def exchange_is_killed(companions, file, new, stop):
+def exchange_is_killed(file, new, stop):
     """While another event is put in the place of one."""
-    sys.path.insert(0, companions)
     from event_companions.beside.copies import Copies, Copy
     from event_companions.core.turn import Turn
 

@@ -3,9 +3,9 @@ import os
 import stat
 
 from event_companions.beside.keys import Keys
-from event_companions.core.checking import differing_tables
 from event_companions.core.lists import Match
 from event_companions.core.score import Score
+from event_companions.prompt.checking import differing_tables
 
 ONE, OTHER, THIRD = "ab" * 32, "cd" * 32, "0F" * 32
 

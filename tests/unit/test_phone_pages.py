@@ -17,6 +17,7 @@ from event_companions.beside.codes import Secret, keep_secret, shown_code
 from event_companions.beside.notes import Notes
 from event_companions.beside.reports import OTHER, STORED, WRONG, Reports, judge_call
 from event_companions.core.event import Event
+from event_companions.core.handing_in import Answer
 from event_companions.core.plan import Plan
 from event_companions.core.score import Score
 from event_companions.languages import LANGUAGES
@@ -26,7 +27,7 @@ from event_companions.phones.at_table import drops_in
 from event_companions.phones.cache import EventCache
 from event_companions.phones.desk_page import Desk
 from event_companions.phones.pages import style
-from event_companions.phones.score_queue import Answer, NotNow
+from event_companions.phones.score_queue import NotNow
 from event_companions.phones.site import Site, outcome_of
 from event_companions.sheets.making import Wanted, page_maker
 from second_reading.plain_event import Event as Played

@@ -1,8 +1,12 @@
 """What a change makes of the lists of an event, and the advice on rounds and cut."""
+import pytest
+
+from event_companions.core.handing_in import Answer
 from event_companions.core.lists import Bracket, Match, Player
 from event_companions.core.plan import Plan, ordinal, usual_rounds
-from event_companions.core.replaying import Change
 from event_companions.core.score import Score
+from event_companions.prompt import replaying as module
+from event_companions.prompt.replaying import Change, Replay
 
 PLAYERS = {number: Player(number, f"P{number}", number == 3) for number in range(1, 5)}
 ROUNDS = [
@@ -83,3 +87,72 @@ def test_what_may_not_work_out():
 def test_the_greatest_cut_for_which_there_are_enough():
     assert [Plan("E", 5, 8).cut_for(left) for left in (9, 8, 7, 4, 3, 2, 1)] == [8, 8, 4, 4, 2, 2, 0]
     assert Plan("E", 5, 0).cut_for(30) == 0
+
+
+# ---- scores that are handed in again
+
+ROUND = [
+    Match(1, 1, 2, Score(2, 0)),
+    Match(2, 3, 4, Score(1, 2)),
+    Match(3, 5, 6, Score(0, 2)),
+    Match(0, 7, 0),
+]
+
+
+class Made:
+    """A new file, of which each command line is remembered."""
+
+    program, file = "none", "none"
+
+    def __init__(self):
+        self.asked = []
+
+    def ask(self, *words):
+        self.asked.append(words)
+        return "ok 1\n"
+
+
+@pytest.fixture
+def serves(monkeypatch):
+    """One run of `serve` that takes each score but that of table 2, and the tables of each such run."""
+    runs = []
+
+    def hand_in(program, file, wanted):
+        runs.append([entered.table for entered in wanted])
+        for entered in wanted:
+            entered.end(None if entered.table == 2 else Answer(serial=entered.table))
+
+    monkeypatch.setattr(module, "hand_in", hand_in)
+    monkeypatch.setattr(module, "ends_with_us", lambda: ["setpriv"])
+    return runs
+
+
+def test_the_scores_of_a_round_are_handed_in_together_and_what_has_no_answer_by_a_line(serves):
+    made = Made()
+    Replay(made).bring_to({}, [ROUND])
+    assert serves == [[1, 2, 3]]
+    assert made.asked == [("result", "1", "2", "1", "2", "0")]
+
+
+def test_few_scores_are_a_line_each(serves):
+    made = Made()
+    Replay(made).bring_to({}, [ROUND[1:]])
+    assert not serves and [words[2] for words in made.asked] == ["2", "3"]
+
+
+def test_where_serve_would_not_end_with_the_prompt_each_score_is_a_line(serves, monkeypatch):
+    monkeypatch.setattr(module, "ends_with_us", lambda: [])
+    made = Made()
+    Replay(made).bring_to({}, [ROUND])
+    assert not serves and [words[2] for words in made.asked] == ["1", "2", "3"]
+
+
+def test_a_score_that_is_known_is_corrected_by_a_line(serves):
+    made = Made()
+    replay = Replay(made)
+    replay.scores = {(1, match.place): Score(2, 0) for match in ROUND[:3]}
+    replay.bring_to({}, [ROUND])
+    assert not serves and made.asked == [
+        ("correct", "1", "2", "1", "2", "0"),
+        ("correct", "1", "3", "0", "2", "0"),
+    ]

@@ -4,11 +4,12 @@ import threading
 import time
 
 import pytest
+from event_companions.core.handing_in import Answer
 from event_companions.core.program import Declined, NoAnswer, Refused, Stamp
 from event_companions.core.score import Score
 from event_companions.core.turn import Turn
 from event_companions.phones import score_queue as module
-from event_companions.phones.score_queue import Answer, ScoreQueue, NotNow
+from event_companions.phones.score_queue import NotNow, ScoreQueue
 
 
 class Program:

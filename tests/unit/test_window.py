@@ -8,7 +8,6 @@ pytest.importorskip("jinja2")
 pytest.importorskip("waitress")
 
 from event_companions.core.event import Progress
-from event_companions.phones.asked import Settled
 from event_companions.window.clicks import Clicks, Entry, Question, parted, yes_or_no
 from event_companions.window.site import Window, list_of, policy, text_of
 from event_companions.window.views import View

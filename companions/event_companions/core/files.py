@@ -9,6 +9,8 @@ import time
 
 # a log that has no room for its header and for a page with the page's own header holds nothing
 LEAST_LOG = 32 + 24 + 512
+# a file system in memory, where nothing waits for a disk
+IN_MEMORY = "/dev/shm"
 # Linux's: names are taken from this folder on, and are exchanged
 HERE, EXCHANGE = -100, 2
 

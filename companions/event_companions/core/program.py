@@ -1,6 +1,7 @@
 """Calls of the program, by command lines over the event's file."""
 from __future__ import annotations
 
+import contextlib
 import enum
 import os
 import re
@@ -11,6 +12,7 @@ import time
 from dataclasses import replace
 from typing import Callable, NamedTuple, Optional, TypeVar, Union
 
+from event_companions.core.files import IN_MEMORY, LEAST_LOG
 from event_companions.core.lists import (
     Bracket,
     Matches,
@@ -218,14 +220,11 @@ class Kept:
         the one before, nobody else changed them.
         """
         is_next = serial == self.serial + 1
-        players, older, newest = (
-            self.text(PLAYERS, before),
-            self.older_rounds(before),
-            self.newest_round(before),
-        )
+        players, older = self.text(PLAYERS, before), self.older_rounds(before)
+        newest = self.newest_round(before)
         self.forget(serial)
         if is_next and newest is not None and older is not None and number == len(older) + 1:
-            scored = [replace(it, score=score) if it.place == table else it for it in newest]
+            scored = [replace(match, score=score) if match.place == table else match for match in newest]
             self.newest = after, scored
         if is_next and players is not None:
             self.texts[PLAYERS] = after, players
@@ -310,21 +309,18 @@ class Source:
         return self.ask_copy(*words)
 
     def ask_copy(self, *words: str) -> str:
-        """Asked of a copy in memory, since the program syncs what it opens, though it only reads."""
+        """Asks a copy in memory, since the program syncs what it opens, though it only reads. FILE itself is
+        asked while its log holds something, and where it can't be copied.
+        """
         with self.turn.taken():
             stamp = self.stamp()
-            if (
-                stamp is None
-                or not stamp.is_exact
-                or stamp.log_size >= 568
-                or not os.access("/dev/shm", os.W_OK)
-            ):
-                return self.ask(*words)
-            with tempfile.TemporaryDirectory(dir="/dev/shm") as room:
-                path = os.path.join(room, "copy.event")
-                shutil.copyfile(self.file, path)
-                if self.stamp() == stamp:
-                    return Source(self.program, path).ask(*words)
+            if stamp and stamp.is_exact and stamp.log_size < LEAST_LOG:
+                with contextlib.suppress(OSError), tempfile.TemporaryDirectory(dir=IN_MEMORY) as room:
+                    copy = os.path.join(room, "copy.event")
+                    shutil.copyfile(self.file, copy)
+                    # no command came meanwhile
+                    if self.stamp() == stamp:
+                        return Source(self.program, copy).ask(*words)
             return self.ask(*words)
 
     def refusal(self, *words: str) -> int:

@@ -4,13 +4,8 @@ if several wait, by one run of `serve` for them all.
 from __future__ import annotations
 
 import contextlib
-import http.client
-import json
 import os
 import queue
-import re
-import shutil
-import subprocess
 import sys
 import threading
 import time
@@ -19,19 +14,18 @@ from typing import Optional
 
 from event_companions.beside.troubles import Troubles
 from event_companions.core.event import found_in
+from event_companions.core.handing_in import LEAST_AT_ONCE, Answer, ends_with_us, hand_in
 from event_companions.core.lists import Rounds, rounds_of
 from event_companions.core.program import (
     FAULTS,
     RESULTS,
     Declined,
     NoAnswer,
-    Refusal,
     Refused,
     Source,
     Stamp,
     serial_in,
 )
-from event_companions.core.program import UNSURE as MAY_PASS
 from event_companions.core.score import Score
 from event_companions.core.turn import Turn
 from event_companions.phones.running import Running
@@ -40,7 +34,6 @@ SECONDS_FOR_A_SCORE = 15.0
 SECONDS_BETWEEN_TRIES = 0.1
 # after each use the file is left alone for so long, so that a command line comes between
 SECONDS_LEFT_TO_OTHERS = 0.008
-SECONDS_FOR_SERVE_TO_END = 5.0
 # a score that waits so long is told to the scorekeeper, until one is stored, or for so long
 SECONDS_UNTIL_TOLD, SECONDS_OF_A_TROUBLE = 3.0, 60.0
 # a disk with less room is full
@@ -48,35 +41,12 @@ LEAST_ROOM = 1_000_000
 # what goes wrong with storing, among the troubles
 SCORES = "scores"
 MOST_WAITING = 256
-# where this many wait, they are handed on together
-LEAST_AT_ONCE, MOST_AT_ONCE = 3, 32
-# what serves ends with this process: the shell looks whether it ended before that was asked for
-ENDS_WITH_US = (
-    "setpriv",
-    "--pdeathsig",
-    "KILL",
-    "sh",
-    "-c",
-    '[ "$PPID" = "$0" ] && exec "$@"',
-    str(os.getpid()),
-)
+# no more than this many are handed in together
+MOST_AT_ONCE = 32
 
 
 class NotNow(Exception):
     """The file was not free in time: nothing was handed in, or nobody knows."""
-
-
-@dataclass(frozen=True)
-class Answer:
-    """Of a score: the serial, or the number of the refusal, with what is stored where the program says so."""
-
-    serial: int = -1
-    refused: int = 0
-    stored: Optional[Score] = None
-
-    @property
-    def is_taken(self) -> bool:
-        return self.serial >= 0
 
 
 @dataclass(eq=False)
@@ -154,7 +124,7 @@ class ScoreQueue:
         self.why = ""
         self.source = Source(program, file, Turn(file, makes_file=True), most_tries=1)
         self.seats = Seats(self.source)
-        self.ends_with_us = list(ENDS_WITH_US) if shutil.which("setpriv") else []
+        self.ends_with_us = ends_with_us()
         self.line: queue.Queue[Waiting] = queue.Queue(MOST_WAITING)
         # those whose phones wait for an answer
         self.waiting: list[Waiting] = []
@@ -278,55 +248,8 @@ class ScoreQueue:
         """As far as it comes. What goes wrong leaves scores without an answer, and they are sent again."""
         with self.source.turn.taken() as held:
             wanted = [score for score in waiting if self.is_seated(score)]
-            words = [self.source.program, "serve", self.source.file, "0", str(len(wanted))]
             if not wanted:
                 return
-            with subprocess.Popen(
-                [*self.ends_with_us, *words],
-                stdin=subprocess.DEVNULL,
-                stdout=subprocess.PIPE,
-                stderr=subprocess.DEVNULL,
-                start_new_session=True,
-                pass_fds=held,
-            ) as serving:
-                try:
-                    hand_over(serving, wanted)
-                    serving.wait(SECONDS_FOR_SERVE_TO_END)
-                except subprocess.TimeoutExpired:
-                    pass
-                finally:
-                    # what it has answered is in the file, whenever it is ended
-                    serving.kill()
+            hand_in(self.source.program, self.source.file, wanted, held)
             taken = [score.answer for score in wanted if score.answer and score.answer.is_taken]
             self.seats.carry([answer.serial for answer in taken])
-
-
-def hand_over(serving: subprocess.Popen[bytes], wanted: list[Waiting]) -> None:
-    """Posts the scores to a program that serves, until all are answered or something goes wrong."""
-    assert serving.stdout
-    found = re.fullmatch(rb"listening ([0-9]+)\n", serving.stdout.readline())
-    with contextlib.suppress(OSError, http.client.HTTPException, ValueError, KeyError, TypeError):
-        for score in wanted if found else ():
-            answer = posted(int(found[1]) if found else 0, score)
-            if answer:
-                score.end(answer)
-
-
-def posted(port: int, score: Waiting) -> Optional[Answer]:
-    x, y, d = score.score
-    target = f"/rounds/{score.number}/tables/{score.table}"
-    connection = http.client.HTTPConnection("127.0.0.1", port, timeout=SECONDS_FOR_SERVE_TO_END)
-    try:
-        connection.request("POST", target, json.dumps({"a": x, "b": y, "d": d}))
-        answer = connection.getresponse()
-        told = json.loads(answer.read(10_000))
-    finally:
-        connection.close()
-    if answer.status == 200:
-        return Answer(int(told["serial"]))
-    number = int(told["refused"])
-    if number in MAY_PASS:
-        return None
-    if number != Refusal.ALREADY_REPORTED:
-        return Answer(refused=number)
-    return Answer(refused=number, stored=Score(*(int(told["score"][name]) for name in "abd")))

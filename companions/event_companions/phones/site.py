@@ -32,6 +32,7 @@ from event_companions.beside.reports import (
     judge_call,
 )
 from event_companions.core.event import Event
+from event_companions.core.handing_in import Answer
 from event_companions.core.lists import Match, Player
 from event_companions.core.names import found_by
 from event_companions.core.program import Refusal
@@ -56,7 +57,7 @@ from event_companions.phones.pages import (
     style_reply,
     tag_of,
 )
-from event_companions.phones.score_queue import Answer, NotNow, ScoreQueue
+from event_companions.phones.score_queue import NotNow, ScoreQueue
 from event_companions.sheets.parts import records_before
 
 MOST_FOUND = 20

@@ -7,10 +7,10 @@ from event_companions.core.event import Event, Phase, shown_player
 from event_companions.core.names import begun
 from event_companions.core.plan import CUTS
 from event_companions.core.program import MOST_ROUNDS, Declined
-from event_companions.core.replaying import Change
 from event_companions.core.stages import slot_shown, words_of_slot
 from event_companions.prompt.lines import numbers_in
 from event_companions.prompt.players import Players
+from event_companions.prompt.replaying import Change
 from event_companions.prompt.replays import plan_now, play_again
 from event_companions.prompt.session import Session
 

@@ -13,7 +13,6 @@ from typing import Iterator, Optional
 
 from event_companions.beside.clock import MOST_MINUTES
 from event_companions.beside.copies import Copy
-from event_companions.core.checking import copies_before, differing_tables, keys_of, opened, paired_copy
 from event_companions.core.event import Phase, shown_player
 from event_companions.core.lists import Matches, players_of
 from event_companions.core.names import visible
@@ -33,6 +32,7 @@ from event_companions.draw.draw import (
     tables_of,
 )
 from event_companions.draw.draws import Kept, differences
+from event_companions.prompt.checking import copies_before, differing_tables, keys_of, opened, paired_copy
 from event_companions.prompt.lines import minutes_of, unbroken
 from event_companions.prompt.rounds import Rounds
 from event_companions.prompt.session import Session

@@ -12,7 +12,6 @@ from event_companions.beside.codes import path_of as path_of_secret
 from event_companions.beside.copies import Copy
 from event_companions.beside.entries import Entries
 from event_companions.beside.title import keep_title
-from event_companions.core.checking import fault_of, opened
 from event_companions.core.event import Event, Phase, read_or_none
 from event_companions.core.files import move, time_stamp
 from event_companions.core.holding import held_by_nobody
@@ -21,6 +20,7 @@ from event_companions.core.names import visible
 from event_companions.core.plan import plan_of, usual_rounds
 from event_companions.core.program import FAULTS, Declined, Refused
 from event_companions.core.rosters import written_list
+from event_companions.prompt.checking import fault_of, opened
 from event_companions.prompt.lines import minutes_of, numbers_in, unbroken
 from event_companions.prompt.session import Command, Session
 from event_companions.prompt.since import (

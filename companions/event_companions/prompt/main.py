@@ -53,12 +53,9 @@ def parser() -> argparse.ArgumentParser:
     as_it_is = argparse.RawDescriptionHelpFormatter
     words = Words(prog=COMMAND, description=DESCRIPTION, epilog=below, formatter_class=as_it_is)
     words.add_argument("file", metavar="FILE", help="the event's file")
-    words.add_argument(
-        "--window", action="store_true", help="the same by clicks, in a browser on this machine"
-    )
-    words.add_argument(
-        "--port", type=port_word, default=0, metavar="N", help="of --window; without it a free one"
-    )
+    # a prototype, of which nobody is told yet: the same by clicks, in a browser on this machine
+    words.add_argument("--window", action="store_true", help=argparse.SUPPRESS)
+    words.add_argument("--port", type=port_word, default=0, metavar="N", help=argparse.SUPPRESS)
     add_program(words)
     return words
 

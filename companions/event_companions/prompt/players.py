@@ -11,7 +11,6 @@ from event_companions.core.event import Event, Phase, shown_player
 from event_companions.core.lists import Player
 from event_companions.core.names import all_but_the_first, compared, found_by, listed, plain, visible
 from event_companions.core.program import Declined
-from event_companions.core.replaying import Change
 from event_companions.core.rosters import (
     Roster,
     path_and_codec,
@@ -25,6 +24,7 @@ from event_companions.core.stages import slot_shown
 from event_companions.core.wording import counted
 from event_companions.core.working import Working, part_shown, share_shown, working_of
 from event_companions.prompt.lines import unbroken
+from event_companions.prompt.replaying import Change
 from event_companions.prompt.replays import play_again
 from event_companions.prompt.session import Command, Session
 

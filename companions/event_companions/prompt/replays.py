@@ -1,10 +1,11 @@
 """How a word of the prompt has the event played again."""
 from __future__ import annotations
 
+from event_companions.core.holding import held_by_nobody
 from event_companions.core.plan import Plan, plan_of
 from event_companions.core.program import Declined
-from event_companions.core.replaying import Change, Course, played_again
 from event_companions.prompt.lines import unbroken
+from event_companions.prompt.replaying import Change, Course, played_again
 from event_companions.prompt.session import Session
 
 
@@ -18,6 +19,9 @@ def plan_now(session: Session) -> Plan:
 def play_again(session: Session, change: Change) -> None:
     """The event is played again with the change. What it was before is a copy then."""
     with unbroken(), session.source.turn.taken():
+        # declined before it is played, and not only when it would take its place
+        with held_by_nobody(session.file):
+            pass
         # another window may have done something while a question stood
         session.look_again()
         session.event.read()

@@ -8,7 +8,11 @@ from typing import Optional
 
 from event_companions.beside.clock import kept_clock, start_clock, stop_clock
 from event_companions.beside.copies import Copy
-from event_companions.core.checking import (
+from event_companions.core.names import begun
+from event_companions.core.program import FAULTS, Declined, Refusal, Refused
+from event_companions.core.stages import slot_shown, words_of_slot
+from event_companions.core.wording import counted, ranges
+from event_companions.prompt.checking import (
     copies_before,
     differing_tables,
     keys_of,
@@ -17,10 +21,6 @@ from event_companions.core.checking import (
     paired_copy,
     standings_after,
 )
-from event_companions.core.names import begun
-from event_companions.core.program import FAULTS, Declined, Refusal, Refused
-from event_companions.core.stages import slot_shown, words_of_slot
-from event_companions.core.wording import counted, ranges
 from event_companions.prompt.lines import minutes_in, minutes_of, numbers_in, score_in, unbroken, with_score
 from event_companions.prompt.session import Command, Session, tables_named
 

@@ -20,7 +20,6 @@ from event_companions.beside.reports import Reports, TwoScores, settle, two_scor
 from event_companions.beside.second_place import SecondPlace
 from event_companions.beside.shown_names import ShownNames, with_shown_names
 from event_companions.beside.title import event_name
-from event_companions.core.checking import copies_before, opened
 from event_companions.core.event import Event, Phase, Progress, shown_player
 from event_companions.core.lists import Matches, Unreadable
 from event_companions.core.names import visible
@@ -38,6 +37,7 @@ from event_companions.core.program import (
 from event_companions.core.stages import slot_shown, slot_typed
 from event_companions.core.wording import counted, ranges
 from event_companions.draw.draws import Draws
+from event_companions.prompt.checking import copies_before, opened
 from event_companions.prompt.lines import WIDTH, Input, unbroken
 from event_companions.prompt.texts import (
     BAD_SCORE_OF_PLAYOFF,

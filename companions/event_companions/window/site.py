@@ -15,7 +15,7 @@ from functools import lru_cache
 from http.cookies import CookieError, SimpleCookie
 from typing import Optional
 
-from event_companions.core.reading import Unread, read_whole
+from event_companions.core.reading import read_whole
 from event_companions.core.rosters import DELIMITERS, columns_of, tidy
 from event_companions.core.templates import templates_in
 from event_companions.languages import DEFAULT

@@ -139,14 +139,14 @@ class View:
 
     @property
     def playing(self) -> int:
-        return sum(not it.player.has_dropped for it in self.players)
+        return sum(not seated.player.has_dropped for seated in self.players)
 
     @property
     def usual(self) -> int:
         return usual_rounds(max(2, len(self.players)))
 
     def seated(self, number: int) -> Optional[Seated]:
-        return next((it for it in self.players if it.player.number == number), None)
+        return next((seated for seated in self.players if seated.player.number == number), None)
 
     def matches_of(self, number: int) -> list[tuple[str, Row]]:
         found = [(f"Round {at}", row) for at, rows in enumerate(self.rounds, 1) for row in rows]
@@ -165,7 +165,7 @@ def view_of(desk: Desk) -> View:
     except (*FAULTS, OSError) as fault:
         view.fault = told_of(fault, desk)
         view.may_pass = not isinstance(fault, Refused) or fault.is_unsure
-        view.copies = [(it, it.shown({})) for it in reversed(session.copies.all())]
+        view.copies = [(copy, copy.shown({})) for copy in reversed(session.copies.all())]
     return view
 
 
@@ -199,24 +199,27 @@ def fill(view: View, desk: Desk) -> None:
     view.clock = kept_clock(file)
     number = view.number
     calls = judge_calls(session.reports, number, event.newest())
-    view.calls = [(it.match.place, visible(players[it.caller].name), it.report.at[11:16]) for it in calls]
-    view.home = [(it.table, it.player) for it in going_home(session.reports, number, players)]
+    view.calls = [
+        (call.match.place, visible(players[call.caller].name), call.report.at[11:16]) for call in calls
+    ]
+    view.home = [(leaver.table, leaver.player) for leaver in going_home(session.reports, number, players)]
     view.from_phones = sum(report.outcome == "stored" for report in session.reports.of_round(number))
     view.secret = kept_secret(file)
     troubles = kept_troubles(file)
     view.is_served, view.troubles = troubles.is_served, troubles.lines
     entries = Entries(file)
     view.has_entries = entries.is_on
-    view.entered = [visible(it.name) for it in desk.entering.waiting()] if entries.is_on else []
+    view.entered = [visible(entered.name) for entered in desk.entering.waiting()] if entries.is_on else []
     view.key = session.keys.last(number) or ""
     made = session.copies.all()
     of_playoff = first or session.first_stage
-    view.copies = [(it, it.shown(players, of_playoff)) for it in reversed(made)]
+    view.copies = [(copy, copy.shown(players, of_playoff)) for copy in reversed(made)]
     draws = session.draws
     view.rule = draws.rule
     if view.rule:
         view.draws = [
-            f"Round {it.round}: number {it.number}, text {shown_digits(it.sum)}" for it in draws.texts()
+            f"Round {text.round}: number {text.number}, text {shown_digits(text.sum)}"
+            for text in draws.texts()
         ]
         view.shut = draws.is_open(number + 1)
         lists = draws.shut(number + 1, view.shut) if view.shut else None
@@ -301,7 +304,7 @@ def rows_of(session: Session, number: int) -> list[Row]:
             )
     points = records_before(event, number)
     rows = []
-    for match in sorted(matches, key=lambda it: (it.is_bye, it.place)):
+    for match in sorted(matches, key=lambda match: (match.is_bye, match.place)):
         head = f"{match.place}" if match.is_open else f"fix {match.place}"
         if not is_newest:
             head = f"fix {number} {match.place}"
@@ -334,7 +337,7 @@ def stage_rows(event: Event, stage: int) -> list[Row]:
 
 def seated(event: Event, standings: list[Standing]) -> list[Seated]:
     tables = matches_by_player(event.newest()) if event.phase is Phase.SWISS else {}
-    ranks = {it.player.number: it for it in standings}
+    ranks = {standing.player.number: standing for standing in standings}
     paired = {
         number for matches in event.rounds for match in matches for number in (match.first, match.second)
     }

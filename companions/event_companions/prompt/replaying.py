@@ -6,28 +6,24 @@ differs, it takes its place.
 from __future__ import annotations
 
 import contextlib
-import math
 import os
 import shutil
-import subprocess
 import tempfile
 from dataclasses import dataclass, replace
 from typing import Callable, Iterator, Optional
 
 from event_companions.beside.copies import Copies, Copy
 from event_companions.beside.keys import Keys
-from event_companions.core.checking import copies_before, differing_tables, keys_of, opened
 from event_companions.core.event import Event, Phase, shown_player
-from event_companions.core.files import has_log
+from event_companions.core.files import IN_MEMORY, has_log
+from event_companions.core.handing_in import LEAST_AT_ONCE, Answer, ends_with_us, hand_in
 from event_companions.core.lists import Bracket, Match, Matches, Players, Rounds
 from event_companions.core.plan import Plan, plan_of
 from event_companions.core.program import FAULTS, Declined, Refusal, Refused, Source
 from event_companions.core.rosters import written_list
+from event_companions.core.score import Score
 from event_companions.core.turn import Turn
-from event_companions.phones.score_queue import LEAST_AT_ONCE, SECONDS_FOR_SERVE_TO_END, Waiting, hand_over
-
-# a file system in memory, where no command waits for a disk
-IN_MEMORY = "/dev/shm"
+from event_companions.prompt.checking import copies_before, differing_tables, keys_of, opened
 
 
 # ---- what is changed
@@ -94,6 +90,19 @@ class Change:
 # ---- the new file
 
 
+@dataclass(eq=False)
+class Entered:
+    """A score that is handed in again, with its answer."""
+
+    number: int
+    table: int
+    score: Score
+    answer: Optional[Answer] = None
+
+    def end(self, answer: Optional[Answer]) -> None:
+        self.answer = answer
+
+
 class NotTheSame(Declined):
     """What came out differs in more than the change."""
 
@@ -131,31 +140,21 @@ class Replay:
                 self.made.ask("import", written)
 
     def enter_new(self, number: int, matches: Matches) -> None:
-        """The first scores of a round, where they are many, by one run of `serve`: a command line opens the whole event for each.
-        What has no answer is sent by `enter`, which a score that was taken is not.
+        """Hands in the first scores of a round together, if they are many. What has no answer then, or another
+        one, is left to `enter`.
         """
-        new = [it for it in matches if not it.is_bye and it.score and (number, it.place) not in self.scores]
-        if len(new) < LEAST_AT_ONCE:
+        new = [
+            Entered(number, match.place, match.score)
+            for match in matches
+            if match.score and not match.is_bye and not self.scores.get((number, match.place))
+        ]
+        if len(new) < LEAST_AT_ONCE or not ends_with_us():
             return
-        words = [self.made.program, "serve", self.made.file, "0", str(len(new))]
-        with subprocess.Popen(
-            words,
-            stdin=subprocess.DEVNULL,
-            stdout=subprocess.PIPE,
-            stderr=subprocess.DEVNULL,
-            start_new_session=True,
-        ) as serving:
-            try:
-                scores = [Waiting(number, it.place, it.score, None, math.inf) for it in new]
-                hand_over(serving, scores)
-                serving.wait(SECONDS_FOR_SERVE_TO_END)
-            except subprocess.TimeoutExpired:
-                pass
-            finally:
-                serving.kill()
-        for score in scores:
-            if score.answer and score.answer.is_taken:
-                self.scores[number, score.table] = score.score
+        with contextlib.suppress(OSError):
+            hand_in(self.made.program, self.made.file, new)
+        for entered in new:
+            if entered.answer and entered.answer.is_taken:
+                self.scores[number, entered.table] = entered.score
 
     def enter(self, number: int, match: Match) -> None:
         known = self.scores.get((number, match.place))
