@@ -6,6 +6,7 @@ import concurrent.futures
 import contextlib
 import functools
 import os
+import re
 import shutil
 import subprocess
 import sys
@@ -28,10 +29,42 @@ def module(name, *words):
 # ---- what is no suite
 
 
+def is_left_out(what, why):
+    print(f"left out: {what}, as {why}", flush=True)
+    return True
+
+
+def python_files():
+    """All Python. What is typed as a command has no ending that tells."""
+    commands = sorted(os.listdir(f"{TOP}/companions/bin"))
+    return ["companions", "tests", "tools", *(f"companions/bin/{name}" for name in commands)]
+
+
+def release_of_black():
+    """The release by which all Python is laid out: another one may lay it out in another way."""
+    with open(f"{TOP}/pyproject.toml", encoding="utf-8") as text:
+        return re.search(r'^required-version = "([\d.]+)"$', text.read(), re.M)[1]
+
+
+def layout_of_python(_given, _rest):
+    what, due = "the layout of Python", release_of_black()
+    if shutil.which("black") is None:
+        return is_left_out(what, "black is not installed")
+    said = subprocess.run(["black", "--version"], stdout=subprocess.PIPE, text=True).stdout
+    if f" {due} " not in said:
+        return is_left_out(what, f"black is another release than {due}")
+    return passes(["black", "--check", *python_files()])
+
+
+def faults_of_python(_given, _rest):
+    if shutil.which("flake8") is None:
+        return is_left_out("faults that flake8 finds", "it is not installed")
+    return passes(["flake8", *python_files()])
+
+
 def types_of_companions(_given, _rest):
     if shutil.which("mypy") is None:
-        print("left out: types of the companions, as mypy is not installed", flush=True)
-        return True
+        return is_left_out("types of the companions", "mypy is not installed")
     with tempfile.TemporaryDirectory() as room:
         return passes(["mypy", "--cache-dir", room])
 
@@ -71,6 +104,7 @@ def oom(is_long):
 def corruption(is_long):
     yield module("tests.faults.damage_edits", PROGRAM, *["all"] * is_long)
     yield module("tests.faults.damage", PROGRAM, STOP, (200, 20_000), SEED, "2", "12", (25, 400))
+    yield module("tests.faults.earlier_frames", PROGRAM, STOP)
 
 
 def package(is_long):
@@ -83,6 +117,7 @@ def package(is_long):
 
 # the suites of each part, by their names, and what is no suite: lines, lines that go side by side, and functions; each part may run beside the others
 PARTS = {
+    "style": (layout_of_python, faults_of_python, types_of_companions),
     "examples": (
         "program/test_scripts.py",
         "program/test_files.py",
@@ -97,7 +132,7 @@ PARTS = {
         "program/test_completions.py",
         "program/test_help.py",
     ),
-    "companions": (types_of_companions, "unit"),
+    "companions": ("unit",),
     "prompt": (
         "prompt/test_prompt.py",
         "prompt/test_words.py",

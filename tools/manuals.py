@@ -89,7 +89,8 @@ def files_of(command):
 
 def page(module, others):
     parser = module.parser()
-    actions = sorted(parser._actions, key=lambda action: not action.option_strings)
+    shown = [action for action in parser._actions if action.help != argparse.SUPPRESS]
+    actions = sorted(shown, key=lambda action: not action.option_strings)
     see = " ,\n".join(f".BR {name} (1)" for name in ("event_reporter", *others))
     return (
         "\n".join(
