@@ -59,9 +59,15 @@ class Request:
                 return answers, serving.end(), rows_of_copy(file)
 
     def allocations(self, sent):
-        """How many allocations there are up to the end of this request."""
+        """Returns how many allocations there are before the program says that it has served, after which it closes the file."""
         _, (_, _, err), _ = self.served_with(0, sent)
-        return int(err.split()[-1])
+        return int(err.split()[-2])
+
+    def closing(self):
+        """Returns the allocations after the program has said that it served this request and the next: it closes the file by them."""
+        _, (_, _, err), _ = self.served_with(0, self.sent, SLIP)
+        said, last = (int(count) for count in err.split()[-2:])
+        return range(said + 1, last + 1)
 
     def tried(self, nth):
         """Whether the request lacked memory if this allocation is refused, and what was wrong, if something was."""
@@ -97,7 +103,14 @@ def main(program, library, stride):
             it = Request(program, library, template, event_of_four(), sent)
             chosen = chosen_allocations(it.first, it.last, stride, LAST)
             told, faults = it.faults(pool.map, chosen)
-            count, lacking, wrong = count + len(chosen), lacking + told, wrong + faults
+            # by then both are answered, so no refusal is due
+            closing = list(pool.map(it.tried, it.closing()))
+            faults += [
+                fault or f"{sent}: lacked memory while it closed"
+                for lacked, fault in closing
+                if lacked or fault
+            ]
+            count, lacking, wrong = count + len(chosen) + len(closing), lacking + told, wrong + faults
     print("\n".join(wrong), file=sys.stderr, end="\n" if wrong else "")
     print(
         f"refused memory while it serves: {count} allocations, each refused once, and {lacking} answers that say so"

@@ -4,7 +4,7 @@ use Rattle.er_cli.specs.{declared.TheConstants.{DONE, REFUSED, USAGE, DEVICE, ME
 use Rattle.er_cli.specs.declared.input.TheConstants.{MAX_SCRIPT_BYTES}
 use Rattle.er_cli.specs.declared.client.TheConstants.{READ_SECONDS, WRITE_SECONDS, REQUEST_SECONDS, CLIENT_SECONDS}
 use Rattle.er_cli.specs.declared.client.TheConstants.{REST_MILLISECONDS, REST_BYTES, INTERRUPTIONS}
-use Rattle.er_cli.specs.declared.closing.TheConstants.{LEAST_LOG, EMPTY_LOG}
+use Rattle.er_cli.specs.declared.logs.TheConstants.{LEAST_LOG}
 
 pub done_is_0 : DONE ≡ 0
 done_is_0 = refl
@@ -50,6 +50,3 @@ a_read_is_interrupted_1000_times = refl
 
 pub a_log_with_a_frame_has_568_bytes : LEAST_LOG ≡ 568
 a_log_with_a_frame_has_568_bytes = refl
-
-pub an_empty_log_has_56_bytes : EMPTY_LOG ≡ 56
-an_empty_log_has_56_bytes = refl

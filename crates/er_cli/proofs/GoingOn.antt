@@ -2,7 +2,7 @@
 use Rattle.std.proofs.Common.{◌≡◌, ◌≢◌, ◌⊎◌, inl, inr, ℕ, Bool, true, false, IsTrue, IsFalse, List, [], ◌∷◌, Option, Some, None}
 use Rattle.std.proofs.Common.{Vec, Global, Result, Ok, Err, is_ok, refl, sym, ap, subst, ◌∙◌, arith, true≢false}
 use Rattle.sqlite.specs.{Tree.Trees, State.HasCleanDisk}
-use Rattle.sqlite.specs.Files.{HoldsDatabase, file_state, over_files}
+use Rattle.sqlite.specs.Files.{HoldsDatabase, IsCleanLeft, file_state, over_files}
 use Rattle.sqlite_disk.specs.declared.Disk as disk
 use Rattle.sqlite_wal.specs.Recovery.{Image}
 use Rattle.sqlite_store.specs.declared.store.FileStore.{FileStore}
@@ -13,25 +13,26 @@ use Rattle.er_store.specs.{Fault.{IsFault}, Representing.{AfterCrash, Represents
 use Rattle.er_desk.specs.{declared.desk.Desk.Desk, Desk.{Point, Placed, DeskState, Outcome, Reads, HoldsOwnEvent, point_of}}
 use Rattle.er_desk.specs.Desk.{IsStoredAt, placed_at, placed_of, running_at, desk_state, state, version_in}
 use Rattle.er_desk.specs.{Reply.{Reply, receipt}, Run.{Session, IsStoredEnd, no_session}, History.{Ended}}
-use Rattle.er_desk.specs.{Files.HasMade, Headline.{FindsAgain, IsBeginning, RecoversHistory}, Migrating.{MayMigrate, Migrates, MovesDesk}}
+use Rattle.er_desk.specs.{Files.HasMade, Headline.{FindsAgain, IsBeginning, RecoversHistory, RecoversWhole}}
+use Rattle.er_desk.specs.Migrating.{MayMigrate, Migrates, MovesDesk}
 use Rattle.sqlite_trees.specs.declared.store.Store.{Ghosts}
 use Rattle.er_desk.specs.{Asking.{Asks, GoesOnFrom, NextSessions}}
 use Rattle.er_desk.specs.{History.new_point, Opening.NoneAwaitsIn}
 use Rattle.er_event.specs.{Sound.{IsSetUp}, Version.{IsVersion}}
 use Rattle.er_cli.specs.Clients.{Got}
-use Rattle.er_cli.specs.{Files.{MakesEvent, WorksOn}, Next.{GoesTo, RecoversSession}}
-use Rattle.er_cli.specs.Remains.{IsClearedOf, ListsByNumber, PutsAway, WasOpenedClean}
+use Rattle.er_cli.specs.{Files.{MakesEvent, WorksOn}, Next.{GoesTo, LeavesAgain, LeavesUnopened, RecoversSession}}
+use Rattle.er_cli.specs.Remains.{IsClearedOf, PutsAway, WasOpenedClean}
 use Rattle.er_cli.specs.World.{World}
 use Rattle.er_cli.specs.declared.remains.{Remains.Remains, Remains.TheVariants.Nothing}
 use Rattle.er_cli.proofs.Leaving.{put_such, put_clean, was_put, cleared_such, cleared_clean, cleared_unopened, cleared_sound, put_sound}
-use Rattle.er_cli.proofs.Leaving.{BeginsIn, left_by}
+use Rattle.er_cli.proofs.Leaving.{BeginsIn, cleared_again, left_by, put_unopened}
 use Rattle.std.proofs.Math.Logic.{∥∥₁_elim}
 use Rattle.sqlite_trees.specs.Props.{Trees-set}
 use Rattle.sqlite.specs.Effect.{Database}
 use Rattle.sqlite_catalog.specs.Listing.{IsSound}
 use Rattle.er_desk.specs.{declared.opening.OpenFault.OpenFault, declared.opening.OpenFault.TheVariants.Unopened as NotOpened}
 use Rattle.er_desk.specs.{declared.opening.OpenFault.TheVariants.Refused as OpenedInVain}
-use Rattle.er_desk.specs.{Opening.{OnRefused, OnUnopened, SparesAt, WhereUnopened, IsCleanFault, HoldsStill, why_of}}
+use Rattle.er_desk.specs.{Opening.{OnRefused, OnUnopened, SparesAt, StaysThere, WhereUnopened, IsCleanFault, HoldsStill, why_of}}
 use Rattle.er_event.specs.{declared.slips.SlipRow.SlipRow, Slip.slip_of, declared.refusals.Refusal.TheVariants.NoSuchMatch}
 use Rattle.er_store.specs.Fault.{IsReadFault}
 use Rattle.er_answers.specs.Answers.{AnswersDesk, AsksFor, DoesAsked, MovesFile, session_at}
@@ -43,7 +44,7 @@ use Rattle.er_cli.specs.GoingOn.{GoesOnBy, LeadsToVersion, MakesNoOther, MayMove
 use Rattle.er_cli.specs.Tasks.{AnswersQuestion, AnswersTask, DoesTask, Work, work_of}
 use Rattle.er_cli.specs.Tasks.Work.{Commands, Migration}
 use Rattle.er_cli.proofs.OnlySuch.{imports_only, serves_only}
-use Rattle.er_cli.specs.{Words.{Does, EndsLine, GoesOnAction, TellsAndLeaves}, Help.{Printed, Tells}}
+use Rattle.er_cli.specs.{Words.{Does, EndsLine, GoesOnAction, GoesOnWith, TellsAndLeaves}, Help.{Printed, Tells}}
 use Rattle.er_cli.specs.declared.action.{Action.Action, Action.TheVariants.{Init, Open}}
 
 -- ---- a receipt
@@ -165,7 +166,6 @@ doubt_fault Represented old new question told represented runs answers stopped =
 pub record Goes {S : Type 0} (g : Ghosts S) (In : (was now : ℕ) → Type 0) (old : Desk S g) (session : Session) (new : Desk S g) : Type
     0 where
   pub clean : HasCleanDisk (state g new) → HasCleanDisk (state g old)
-  pub sure : IsFalse (desk_state new).needs_reopen → session.in_doubt ≡ None
   pub crash : HoldsOwnEvent g old → AfterCrash (state g new)
       (λ trees. (v : ℕ) × In (version_in old) v × IsStoredEnd (placed_at (point_of (desk_state old)) v) session trees)
 
@@ -176,7 +176,6 @@ goes_asking : {S : Type 0} (g : Ghosts S) (old : Desk S g) (session : Session) (
     → Goes g Stays old session new
 goes_asking g old session new it = record {
   clean = it.as_call.clean;
-  sure = it.sure;
   crash = λ shows clean trees may. (version_in old, refl, it.crash shows clean trees may);
 }
 
@@ -211,7 +210,6 @@ goes_moving : {S : Type 0} (g : Ghosts S) (old : Desk S g) (told : Answer) (new 
     → Goes g (LeadsToVersion Migrate told) old no_session new
 goes_moving g old told new it may = record {
   clean = it.does.clean;
-  sure = λ runs. refl;
   crash = λ shows clean trees left.
       let (version, within, stays) = migration_leads g old new told it may shows clean trees left in
       (version, within, ends_nowhere (placed_at (point_of (desk_state old)) version) trees stays);
@@ -289,12 +287,7 @@ module _ (new : Point) (first : Placed) (ends : List Ended) (begins : IsBeginnin
       put_away = was_put (state over_files last) what put.closes;
       leaves = left_by (In first.version) new ends session begins what (put_sound (state over_files last) what put.closes)
           (put_such (BeginsIn (In first.version) new ends session) (state over_files last) what put.closes leaves_next);
-      spared = λ doubt. by_stop (desk_state last).needs_reopen refl doubt;
     }
-      where
-        by_stop : (b : Bool) → (desk_state last).needs_reopen ≡ b → (session.in_doubt ≡ None → ⊥) → ListsByNumber what
-        by_stop true stopped doubt = put.spared stopped
-        by_stop false runs doubt = absurd (doubt (asked.sure runs))
 
 -- ---- a new event
 
@@ -423,26 +416,33 @@ module _ (law : NextSessions) (image : Image) (new : Point) (first : Placed) (en
       answers_task (Serve port count) desk last runs found cleans put work (session, is, did) =
           (session, is, serves_only _ p port count (world.coming port) got (desk_state desk) session (desk_state last) did)
 
+      pub goes_on_with : (task : Task) (desk last : Desk (FileStore D d) over_files) → IsFalse (desk_state desk).needs_reopen
+          → IsFound d image first desk → (it : Does over_files world got desk task last p) → PutsAway last what
+          → GoesOnWith d image task it.done what p new first ends
+      goes_on_with task desk last runs found it put = record {
+        told = answers_task task desk last runs found (work_clean over_files desk it.done last it.file) put it.done it.told;
+        file = goes_on_by desk last found it.done it.file put;
+      }
+
       pub task_goes_on : (task : Task) (desk last : Desk (FileStore D d) over_files) → IsFalse (desk_state desk).needs_reopen
           → IsFound d image first desk → Does over_files world got desk task last p → PutsAway last what
           → GoesOn d world image new ends first what p task
-      task_goes_on task desk last runs found it put = inl (record {
-        done = it.done;
-        told = answers_task task desk last runs found (work_clean over_files desk it.done last it.file) put it.done it.told;
-        file = goes_on_by desk last found it.done it.file put;
-      })
+      task_goes_on task desk last runs found it put =
+          let goes = goes_on_with task desk last runs found it put in inl (record { done = it.done; told = goes.told; file = goes.file })
 
       pub unopened_goes_on : (task : Task) (fault : OpenFault D d) (why : Refusal) → why ≡ why_of fault → IsClearedOf fault what
           → (IsCleanFault fault → IsFault (why_of fault))
           → ((db : Trees) → HoldsDatabase image db → OnRefused fault (λ conn. AfterCrash (file_state conn) (λ trees. trees ≡ db)))
-          → WhereUnopened fault (IsFault (why_of fault)) → OnUnopened fault (SparesAt image) → Tells (Refused why) p
+          → WhereUnopened fault (IsFault (why_of fault)) → OnUnopened fault (SparesAt image)
+          → (RecoversWhole image first → OnUnopened fault (StaysThere first)) → Tells (Refused why) p
           → GoesOn d world image new ends first what p task
-      unopened_goes_on task fault why is cleared cause kept failed spared tells =
+      unopened_goes_on task fault why is cleared cause kept failed spared again tells =
           let stays : StaysUnopened d image new ends first why what = record {
             fault = cleared_clean (IsFault why) fault what cleared (refused_fault fault why is cause);
             leaves = left_by (Stays first.version) new ends no_session was.begins what (cleared_sound fault what cleared)
                 (cleared_such (BeginsIn (Stays first.version) new ends no_session) fault what cleared (refused_next fault kept));
             unopened = cleared_unopened image fault why what is cleared failed spared;
+            again = λ whole. cleared_again image new ends first was fault what cleared (again whole);
           } in
           inr (record { done = why; told = tells; file = stays })
 
@@ -460,6 +460,7 @@ module _ {D : Type 0} (d : disk.Ghosts D) (world : World) (file : List ℕ) (wha
     file = record {
       refused = λ opened. (Memory, refl, inr (inr (inl refl)));
       leaves = subst (λ (left : Remains D d). RecoversSession d (Stays first.version) new ends no_session left) (sym none) tt;
+      again = λ whole. subst (λ (left : Remains D d). LeavesUnopened d new ends first left) (sym none) tt;
     };
   }
   unread_goes_on none tells (Open task) = absent_goes_on Memory (inr (inl refl)) none tells task
@@ -467,19 +468,21 @@ module _ {D : Type 0} (d : disk.Ghosts D) (world : World) (file : List ℕ) (wha
   module _ (new : Point) (first : Placed) (ends : List Ended) (was : RecoversHistory (world.image file) new ends first) where
     -- If there is a history, no other event is made on a clean disk.
     no_other : (name : List ℕ) (rounds cut : ℕ) (told : Answer) → MakesEvent d (world.image file) name rounds cut told what
-        → MakesNoOther d new ends first told what
+        → MakesNoOther d (world.image file) new ends first told what
     no_other name rounds cut told (inl (set_up, is, (desk, made, put, begins))) = record {
       refused = λ opened. absurd (put_clean ⊥ (state over_files desk) what put.closes (made.absent first was.left)
           (opened (was_put (state over_files desk) what put.closes)));
       leaves = left_by (Stays first.version) new ends no_session was.begins what (put_sound (state over_files desk) what put.closes)
           (put_such (BeginsIn (Stays first.version) new ends no_session) (state over_files desk) what put.closes
           (λ clean trees may. absurd (made.absent first was.left clean)));
+      again = λ whole. put_unopened (λ rest. IsCleanLeft rest → LeavesAgain d new ends first rest) (state over_files desk) what put.closes;
     }
     no_other name rounds cut told (inr (inl (set_up, (why, is, none)))) =
-        record { refused = λ opened. (why, is, inr none.cause); leaves = none.stays new ends first was }
+        record { refused = λ opened. (why, is, inr none.cause); leaves = none.stays new ends first was; again = none.again new ends first was }
     no_other name rounds cut told (inr (inr (unlawful, is, nothing))) = record {
       refused = λ opened. (BadSetup, is, inl refl);
       leaves = subst (λ (left : Remains D d). RecoversSession d (Stays first.version) new ends no_session left) (sym nothing) tt;
+      again = λ whole. subst (λ (left : Remains D d). LeavesUnopened d new ends first left) (sym nothing) tt;
     }
 
   pub init_goes_on : (got : Option (List Got)) (name : List ℕ) (rounds cut : ℕ) → EndsLine d world got file what p (Init name rounds cut)

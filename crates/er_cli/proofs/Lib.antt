@@ -12,7 +12,7 @@ mod GoingOn
 mod Leaving
 mod Outcomes
 mod Making
-mod Lengthening
+mod Copying
 mod Helping
 mod Stopping
 mod Hosting

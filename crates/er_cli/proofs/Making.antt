@@ -11,17 +11,18 @@ use Rattle.std.specs.Prelude.{◌&&◌}
 use Rattle.std.proofs.lemmas.Bool.{le-leb}
 use Rattle.er_share.specs.declared.TheConstants.{MAX_ROUNDS}
 use Rattle.er_desk.specs.{declared.desk.Desk.Desk, Files.HasMade, History.{Ended, new_point}, Run.no_session}
-use Rattle.er_desk.specs.{Asking.NextSessions, Headline.{Recovers, RecoversHistory}}
+use Rattle.er_desk.specs.{Asking.NextSessions, Headline.{Recovers, RecoversHistory, RecoversWhole}}
 use Rattle.er_answers.specs.declared.question.Answer.TheVariants.{Refused}
 use Rattle.std.proofs.Common.{◌⊎◌}
 use Rattle.sqlite.specs.{Tree.Trees, Effect.{Database, IsDatabase}, State.HasCleanDisk, Files.{AreFoundIn, HoldsDatabase, file_state}}
 use Rattle.er_store.specs.{Fault.IsFault, Beside.IsStoredBeside, Representing.{Either, IsStoredIn, AfterCrash}}
 use Rattle.er_desk.specs.declared.opening.{OpenFault.OpenFault, OpenFault.TheVariants.Unopened as NotOpened}
 use Rattle.er_desk.specs.declared.opening.OpenFault.TheVariants.{Refused as OpenedInVain}
-use Rattle.er_desk.specs.{Desk.{Point, Placed, IsStoredAt}, Opening.{HasAnEvent, NoneAwaitsIn, RecoversBeside, OnRefused, OnUnopened, SparesAt, WhereUnopened, why_of}}
+use Rattle.er_desk.specs.{Desk.{Point, Placed, IsStoredAt}, Opening.{HasAnEvent, NoneAwaitsIn, RecoversBeside, OnRefused, OnUnopened, why_of}}
+use Rattle.er_desk.specs.Opening.{SparesAt, StaysThere, WhereUnopened}
 use Rattle.er_cli.specs.declared.remains.{Remains.Remains, Remains.TheVariants.Nothing, OpenError.OpenError}
 use Rattle.er_cli.specs.{Remains.{IsClearedOf, RecoversSuch}, Files.{HasMadeNone, MakesEvent}}
-use Rattle.er_cli.proofs.Leaving.{BeginsIn, cleared_such, cleared_clean, cleared_sound, cleared_unopened, left_by}
+use Rattle.er_cli.proofs.Leaving.{BeginsIn, cleared_again, cleared_such, cleared_clean, cleared_sound, cleared_unopened, left_by}
 use Rattle.er_cli.proofs.GoingOn.{ends_nowhere}
 use Rattle.er_cli.specs.{inside.Making.InitReplies, Setup.is_setup}
 
@@ -111,8 +112,9 @@ module _ {D : Type 0} {g : disk.Ghosts D} where
       → OnRefused fault (λ conn. AfterCrash (file_state conn) (Either (AreFoundIn image) (IsStoredIn 2 new.event new.serial))))
       → ((db : Trees) → HoldsDatabase image db → OnRefused fault (λ conn. HasCleanDisk (file_state conn)
       → RecoversBeside new db (file_state conn)))
-      → OnUnopened fault (SparesAt image) → HasMadeNone image new why what
-  not_made law image new fault why what so is cause failed there stays leaves over spared = record {
+      → OnUnopened fault (SparesAt image) → ((placed : Placed) → RecoversWhole image placed → OnUnopened fault (StaysThere placed))
+      → HasMadeNone image new why what
+  not_made law image new fault why what so is cause failed there stays leaves over spared again = record {
     cause = subst (λ (w : Refusal). (w ≡ EventExists) ⊎ IsFault w) (sym so) cause;
     unopened = cleared_unopened image fault why what so is failed spared;
     exists = λ same. cleared_clean (LeavesJust image what) fault what is (just image fault what is (there (sym so ∙ same)));
@@ -120,6 +122,7 @@ module _ {D : Type 0} {g : disk.Ghosts D} where
         (cleared_sound fault what is)
         (cleared_such (BeginsIn (λ version. version ≡ last.version) first ends no_session) fault what is
         (found_again law image first ends last was fault (stays last was.left)));
+    again = λ first ends last was whole. cleared_again image first ends last was fault what is (again last whole);
     leaves = λ awaits. cleared_such (Either (AreFoundIn image) (IsStoredIn 2 new.event new.serial)) fault what is (leaves awaits);
     beside = λ db holds. cleared_clean (LeavesBeside new db what) fault what is (beside new db fault what is (over db holds));
   }

@@ -17,7 +17,7 @@ use Rattle.er_desk.specs.declared.desk.Desk.{Desk}
 use Rattle.er_desk.specs.Asking.{Asks}
 use Rattle.er_desk.specs.Desk.{Point, Placed}
 use Rattle.er_desk.specs.Files.{HasMade}
-use Rattle.er_desk.specs.Headline.{RecoversHistory}
+use Rattle.er_desk.specs.Headline.{RecoversHistory, RecoversWhole}
 use Rattle.er_desk.specs.Opening.{HasAnEvent, NoneAwaitsIn, NamesFirstFault, SparesAt}
 use Rattle.er_desk.specs.History.{Ended, new_point}
 use Rattle.er_desk.specs.Reply.{receipt}
@@ -26,7 +26,7 @@ use Rattle.er_answers.specs.Answers.{MovesFile}
 use Rattle.er_answers.specs.declared.question.Answer.{Answer}
 use Rattle.er_answers.specs.declared.question.Answer.TheVariants.{Accepted, Refused}
 use Rattle.er_cli.specs.Remains.{IfUnopened, PutsAway, RecoversSuch, WasOpenedClean}
-use Rattle.er_cli.specs.Next.{GoesTo, RecoversSession}
+use Rattle.er_cli.specs.Next.{GoesTo, LeavesUnopened, RecoversSession}
 use Rattle.er_cli.specs.Tasks.{Work}
 use Rattle.er_cli.specs.Tasks.Work.{Commands, Migration}
 use Rattle.er_cli.specs.declared.remains.Remains.{Remains}
@@ -61,6 +61,8 @@ pub record HasMadeNone {D : Type 0} {g : disk.Ghosts D} (image : Image) (new : P
       → (db : Database) × HasAnEvent image db × RecoversSuch (λ trees. trees ≡ db.trees) what
   pub stays : (first : Point) (ends : List Ended) (last : Placed) → RecoversHistory image first ends last
       → RecoversSession g (λ version. version ≡ last.version) first ends no_session what
+  pub again : (first : Point) (ends : List Ended) (last : Placed) → RecoversHistory image first ends last → RecoversWhole image last
+      → LeavesUnopened g first ends last what
   pub leaves : NoneAwaitsIn image → RecoversSuch (Either (AreFoundIn image) (IsStoredIn 2 new.event new.serial)) what
   pub beside : (db : Trees) → HoldsDatabase image db → WasOpenedClean what
       → (old : Database) × (old.trees ≡ db) × IsDatabase old

@@ -17,7 +17,7 @@ use Rattle.er_store.specs.Migrated.{NoneAwaitsPlayer2}
 use Rattle.er_store.specs.Representing.{AfterCrash, RepresentsIn}
 use Rattle.er_desk.specs.declared.desk.Desk.{Desk}
 use Rattle.er_desk.specs.Desk.{Point, Placed, HoldsOwnEvent, IsStoredAt, desk_state, placed_at, point_of, state, version_in}
-use Rattle.er_desk.specs.Headline.{FindsAgain}
+use Rattle.er_desk.specs.Headline.{FindsAgain, RecoversWhole}
 use Rattle.er_desk.specs.Migrating.{MayMigrate}
 use Rattle.er_desk.specs.Opening.{HoldsStill, SparesAt}
 use Rattle.er_desk.specs.Run.{no_session}
@@ -28,7 +28,7 @@ use Rattle.er_answers.specs.declared.question.Question.TheVariants.{Migrate}
 use Rattle.er_answers.specs.declared.question.Answer.{Answer}
 use Rattle.er_answers.specs.declared.question.Answer.TheVariants.{Accepted, Refused}
 use Rattle.er_cli.specs.Remains.{IfUnopened, WasOpenedClean}
-use Rattle.er_cli.specs.Next.{GoesTo, RecoversSession, WasOpened}
+use Rattle.er_cli.specs.Next.{GoesTo, LeavesUnopened, RecoversSession, WasOpened}
 use Rattle.er_cli.specs.Tasks.{Work}
 use Rattle.er_cli.specs.Tasks.Work.{Commands, Migration}
 use Rattle.er_cli.specs.declared.remains.Remains.{Remains}
@@ -70,12 +70,14 @@ GoesOnBy d image new ends first (Migration told) what =
 
 -- An event was to be made where there is a history. None was: it is refused since there is one, or for what was asked, or memory or the
 -- device fails. Nothing was asked, and what is left is what the history left.
-pub record MakesNoOther {D : Type 0} (d : disk.Ghosts D) (new : Point) (ends : List Ended) (first : Placed) (told : Answer)
+pub record MakesNoOther {D : Type 0} (d : disk.Ghosts D) (image : Image) (new : Point) (ends : List Ended) (first : Placed) (told : Answer)
     (what : Remains D d) : Type 0 where
   -- if it was opened, then on a clean disk
   pub refused : (WasOpened what → WasOpenedClean what)
       → (why : Refusal) × (told ≡ Refused why) × ((why ≡ BadSetup) ⊎ (why ≡ EventExists) ⊎ IsFault why)
   pub leaves : RecoversSession d (λ version. version ≡ first.version) new ends no_session what
+  -- files that were not opened too, if each page of the file had its sum
+  pub again : RecoversWhole image first → LeavesUnopened d new ends first what
 
 -- The event was not opened, for memory or by the device. Nothing was asked, and what is left is what the history left.
 pub record StaysUnopened {D : Type 0} (d : disk.Ghosts D) (image : Image) (new : Point) (ends : List Ended) (first : Placed)
@@ -84,3 +86,5 @@ pub record StaysUnopened {D : Type 0} (d : disk.Ghosts D) (image : Image) (new :
   pub leaves : RecoversSession d (λ version. version ≡ first.version) new ends no_session what
   -- what is left of files that were not opened, as the storage crate has it
   pub unopened : IfUnopened (SparesAt image) why what
+  -- the next command line finds the history in it, if each page of the file had its sum
+  pub again : RecoversWhole image first → LeavesUnopened d new ends first what

@@ -20,6 +20,7 @@ use Rattle.er_cli.specs.declared.action.Action.{Action}
 use Rattle.er_cli.specs.declared.action.Action.TheVariants.{Init, Open}
 use Rattle.er_cli.specs.declared.action.Task.{Task}
 use Rattle.er_cli.specs.Action.{action_of, file_of}
+use Rattle.sqlite_wal.specs.Recovery.{Image}
 use Rattle.er_cli.specs.Clients.{Got}
 use Rattle.er_cli.specs.Complaints.{EndsAsUsage}
 use Rattle.er_cli.specs.Files.{IsNotOpened, IsNotThere, MakesEvent, WorksOn}
@@ -43,16 +44,26 @@ Does g world got desk task last p = TellsAndLeaves
     (λ (work : Work). DoesTask world got (HasCleanDisk (state g last) × HoldsOwnEvent g desk) (desk_state desk) task work (desk_state last) p)
     (λ (work : Work). WorksOn g desk work last)
 
+-- Any history that left the file goes on with this work, and the answer is that of the event at its end.
+pub record GoesOnWith {D : Type 0} (d : disk.Ghosts D) (image : Image) (task : Task) (work : Work) (what : Remains D d) (p : Printed) (new : Point)
+    (first : Placed) (ends : List Ended) : Type 0 where
+  pub told : AnswersTask (WasOpenedClean what) first task work p
+  pub file : GoesOnBy d image new ends first work what
+
+abbrev pub GoOnWith : {D : Type 0} (d : disk.Ghosts D) → Image → Task → Work → Remains D d → Printed → Type 0
+GoOnWith d image task work what p =
+    (new : Point) (first : Placed) (ends : List Ended) → RecoversHistory image new ends first → GoesOnWith d image task work what p new first ends
+
 module _ {D : Type 0} (g : disk.Ghosts D) (world : World) (got : Option (List Got)) (file : List ℕ) (what : Remains D g) (p : Printed) where
   -- Over a file that may hold anything, a line makes an event. Or it opens the event there, does one task with it and puts its file away;
-  -- or none was opened, and why is told.
+  -- or none was opened, and why is told. If a history left the file, it goes on with just that task's work.
   abbrev pub EndsLine : Action → Type 0
   EndsLine (Init name rounds cut) = TellsAndLeaves (λ (told : Answer). Tells told p)
       (λ (told : Answer). MakesEvent g (world.image file) name rounds cut told what)
   EndsLine (Open task) =
       ((world.is_there file ≢ Some false) × (desk : Desk (FileStore D g) over_files) × (last : Desk (FileStore D g) over_files)
       × HasOpened (world.image file) desk
-      × Does over_files world got desk task last p × PutsAway last what)
+      × (it : Does over_files world got desk task last p) × PutsAway last what × GoOnWith g (world.image file) task it.done what p)
       ⊎ TellsAndLeaves (λ (why : Refusal). Tells (Refused why) p)
       (λ (why : Refusal). IsNotThere (world.is_there file) why what
       ⊎ ((world.is_there file ≢ Some false) × IsNotOpened (world.image file) why what))
@@ -82,7 +93,7 @@ module _ {D : Type 0} (d : disk.Ghosts D) (world : World) (file : List ℕ) wher
   abbrev pub GoesOnAction : Action → Remains D d → Printed → Type 0
   GoesOnAction (Init name rounds cut) what p =
       (new : Point) (first : Placed) (ends : List Ended) → RecoversHistory (world.image file) new ends first
-      → TellsAndLeaves (λ (told : Answer). Tells told p) (λ (told : Answer). MakesNoOther d new ends first told what)
+      → TellsAndLeaves (λ (told : Answer). Tells told p) (λ (told : Answer). MakesNoOther d (world.image file) new ends first told what)
   GoesOnAction (Open task) what p =
       TellsAndLeaves (λ (why : Refusal). Tells (Refused why) p) (λ (why : Refusal). IsNotThere (world.is_there file) why what)
       ⊎ GoesOnTask task what p

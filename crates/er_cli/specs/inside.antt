@@ -2,7 +2,6 @@
 pub mod Input
 pub mod Unread
 pub mod Desk
-pub mod Closing
 pub mod Making
 pub mod Complaints
 pub mod Serving

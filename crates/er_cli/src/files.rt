@@ -12,7 +12,7 @@ ghost use Rattle.er_desk.specs.Reply.{receipt};
 ghost use Rattle.er_cli.specs.declared.action.Action.TheVariants.{Init, Open};
 ghost use Rattle.er_cli.specs.Action.{action_of, file_of};
 ghost use Rattle.er_store.specs.Fault.{IsFault};
-ghost use Rattle.er_cli.specs.Remains.{PutsAway};
+ghost use Rattle.er_cli.specs.Remains.{LetsNoneGo, PutsAway};
 ghost use Rattle.er_desk.specs.Files.{HasMade};
 ghost use Rattle.er_cli.specs.Files.{HasMadeNone};
 ghost use Rattle.er_cli.specs.Serving.{ServesClients};
@@ -66,7 +66,8 @@ fn create<H: Host>(
 ) -> Result<Desk<FileStore<H::File>>, OpenError<H::File>>
     requires shut { IsTrue (H.is_shut host.old) }
     requires limits { AreLimits rounds cut }
-    ensures { MatchResult result (HasMade ((H.world host.old).image path.now) name rounds cut)
+    ensures held { IfErr result (λ it. LetsNoneGo it.left (H.is_held host.old) (H.is_held host.new)) }
+    ensures makes { MatchResult result (HasMade ((H.world host.old).image path.now) name rounds cut)
         (λ it. HasMadeNone ((H.world host.old).image path.now)
         (new_point name rounds cut) it.why it.left) }
 {
@@ -75,7 +76,7 @@ fn create<H: Host>(
     let log = host.log_to_make(path);
     match create_desk(alloc, host, path, name, rounds, cut) {
         Ok(desk) => Ok(desk),
-        Err(fault) => Err(clear_fault(host, fault, log.as_ref())),
+        Err(fault) => Err(clear_fault(alloc, host, fault, log.as_ref())),
     }
 }
 
@@ -89,7 +90,8 @@ fn init<H: Host>(
     cut: u8,
 ) -> Result<Desk<FileStore<H::File>>, OpenError<H::File>>
     requires shut { IsTrue (H.is_shut host.old) }
-    ensures { InitReplies H.File.Disk ((H.world host.old).image path.now)
+    ensures held { IfErr result (λ it. LetsNoneGo it.left (H.is_held host.old) (H.is_held host.new)) }
+    ensures replies { InitReplies H.File.Disk ((H.world host.old).image path.now)
         name.now rounds cut result }
 {
     match set_up(alloc, name, rounds, cut) {
@@ -103,6 +105,7 @@ fn init<H: Host>(
 
 /// Tells that an event was made, and closes its file once that is written.
 fn print_made<D: Disk + Drop, O: Print, E: Print>(
+    alloc: Global,
     desk: Desk<FileStore<D>>,
     out: &mut O,
     err: &mut E,
@@ -118,7 +121,7 @@ fn print_made<D: Disk + Drop, O: Print, E: Print>(
     let status = print(out, err, &Answer::Accepted(Receipt { serial: 0 }));
     Outcome {
         status,
-        left: put_away(desk),
+        left: put_away(alloc, desk),
     }
 }
 
@@ -134,14 +137,15 @@ fn make<H: Host, O: Print, E: Print>(
     err: &mut E,
 ) -> Outcome<H::File>
     requires shut { IsTrue (H.is_shut host.old) }
-    ensures { EndsLine H.File.Disk (H.world host.old) (H.got host.new) path.now result.left
+    ensures held { LetsNoneGo result.left (H.is_held host.old) (H.is_held host.new) }
+    ensures ends { EndsLine H.File.Disk (H.world host.old) (H.got host.new) path.now result.left
         (prints (O.printed out.old) (O.printed out.new)
         (E.printed err.old) (E.printed err.new) result.status) (Init name.now rounds cut) }
 {
     // What is begun here is the history that the next command line goes on with: this tells the proof.
     next_sessions();
     match init(alloc, host, path, name, rounds, cut) {
-        Ok(desk) => print_made(desk, out, err),
+        Ok(desk) => print_made(alloc, desk, out, err),
         Err(why) => tell_no_desk(out, err, why),
     }
 }
@@ -218,7 +222,7 @@ fn do_and_close<H: Host, O: Print, E: Print>(
     let status = do_task(alloc, host, &mut desk, task, out, err);
     Outcome {
         status,
-        left: put_away(desk),
+        left: put_away(alloc, desk),
     }
 }
 
@@ -249,6 +253,7 @@ fn open<H: Host, O: Print, E: Print>(
 ) -> Outcome<H::File>
     requires shut { IsTrue (H.is_shut host.old) }
     requires there { (H.world host.old).is_there path.now ≢ Some false }
+    ensures held { LetsNoneGo result.left (H.is_held host.old) (H.is_held host.new) }
     ensures ends { EndsLine H.File.Disk (H.world host.old) (H.got host.new) path.now result.left
         (prints (O.printed out.old) (O.printed out.new)
         (E.printed err.old) (E.printed err.new) result.status) (Open task) }
@@ -262,7 +267,7 @@ fn open<H: Host, O: Print, E: Print>(
     let log = host.log_to_make(path);
     match open_desk(alloc, host, path) {
         Ok(desk) => do_and_close(alloc, host, desk, task, out, err),
-        Err(fault) => tell_no_desk(out, err, clear_fault(host, fault, log.as_ref())),
+        Err(fault) => tell_no_desk(out, err, clear_fault(alloc, host, fault, log.as_ref())),
     }
 }
 
@@ -275,6 +280,7 @@ pub fn run_line<H: Host, O: Print, E: Print>(
     err: &mut E,
 ) -> Outcome<H::File>
     requires shut { IsTrue (H.is_shut host.old) }
+    ensures held { LetsNoneGo result.left (H.is_held host.old) (H.is_held host.new) }
     ensures ends { EndsLine H.File.Disk (H.world host.old) (H.got host.new) (file_of line) result.left
         (prints (O.printed out.old) (O.printed out.new)
         (E.printed err.old) (E.printed err.new) result.status) (action_of line) }

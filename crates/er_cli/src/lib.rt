@@ -6,6 +6,7 @@ ghost use Rattle.std.specs.Io.KnownBytes.{Appends};
 ghost use Rattle.er_cli.specs.Texts.{told_text, AppendsPart};
 ghost use Rattle.sqlite_wal.specs.Files.{image_at};
 ghost use Rattle.er_cli.specs.World.{untold};
+ghost use Rattle.er_cli.specs.Remains.{LetsNoneGo};
 ghost use Rattle.er_cli.specs.Complaints.{EndsAsUsage};
 ghost use Rattle.er_cli.specs.Words.{EndsWords, GoesOnWords};
 ghost use Rattle.er_cli.specs.declared.help.TheConstants.{AWAITING};
@@ -25,6 +26,7 @@ mod host;
 mod importing;
 mod input;
 pub mod laws;
+mod logs;
 mod opening;
 mod remains;
 mod script;
@@ -34,7 +36,7 @@ mod texts;
 
 pub use action::{Action, Task, file_and_action};
 pub use clients::{AcceptFault, Clients, Side, Visit};
-pub use closing::{NewLog, close, into_store};
+pub use closing::{close, into_store};
 use complaints::complaint;
 pub use er_answers::{Answer, Question, View};
 use er_event::Refusal;
@@ -43,6 +45,7 @@ use files::run_line;
 use help::{AWAITING, text_for};
 pub use host::{Host, System};
 use input::{InputFault, lines_of, read_script};
+pub use logs::NewLog;
 pub use remains::{Outcome, Remains};
 use script::run_lines;
 pub use serving::{serve_all, serve_clients, serve_on};
@@ -208,6 +211,8 @@ pub fn run_on<H: Host, O: Print, E: Print>(
     err: &mut E,
 ) -> Outcome<H::File>
     requires shut { IsTrue (H.is_shut host.old) }
+    // No file that was opened is let go: what is left of it comes back.
+    ensures held { LetsNoneGo result.left (H.is_held host.old) (H.is_held host.new) }
     // The theorem. Of a file that a history of a new event left, the history goes on with what is asked of the desk: the one command,
     // enrolments, scores, or nothing. The answer is that of the event at its end; and in what is left of the file the next command line
     // finds it. `init` makes no other event there. Or the event was not opened, and the answer says why; or no file is given back, and the

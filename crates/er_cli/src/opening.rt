@@ -1,7 +1,8 @@
 //! The event in the file of a host.
-ghost use Rattle.std.specs.Prelude.{◌≡◌, false, IsTrue};
+ghost use Rattle.std.specs.Prelude.{◌≡◌, false, IfErr, IsTrue, None};
 ghost use Rattle.er_event.specs.Sound.{AreLimits};
 ghost use Rattle.er_desk.specs.Files.{OpensFile, MakesFile};
+ghost use Rattle.er_desk.specs.Opening.{OnUnopened};
 ghost use Rattle.er_cli.specs.World.{KeepsListsAndClients};
 
 use crate::host::Host;
@@ -19,6 +20,8 @@ pub fn open_desk<H: Host>(
 ) -> Result<Desk<FileStore<H::File>>, OpenFault<H::File>>
     requires shut { IsTrue (H.is_shut host.old) }
     ensures opens { OpensFile ((H.world host.old).image path.now) result }
+    ensures held { IfErr result (λ fault. OnUnopened fault (λ error rest. rest ≡ None
+        → H.is_held host.new ≡ H.is_held host.old)) }
     ensures is_open { H.is_shut host.new ≡ false }
     ensures others { KeepsListsAndClients (H.world host.old) (H.world host.new) }
 {
@@ -37,6 +40,8 @@ pub fn create_desk<H: Host>(
     requires shut { IsTrue (H.is_shut host.old) }
     requires limits { AreLimits rounds cut }
     ensures makes { MakesFile ((H.world host.old).image path.now) name rounds cut result }
+    ensures held { IfErr result (λ fault. OnUnopened fault (λ error rest. rest ≡ None
+        → H.is_held host.new ≡ H.is_held host.old)) }
     ensures is_open { H.is_shut host.new ≡ false }
     ensures others { KeepsListsAndClients (H.world host.old) (H.world host.new) }
 {

@@ -9,7 +9,9 @@ pub enum Remains<D: Disk + Drop> {
     Nothing,
     /// It was closed: the log is copied into the database file.
     Closed(Files<D>),
-    /// It was opened, and not closed: it has no event that can be served, or could not be closed. The log keeps what it has.
+    /// It was opened, and its store closed. The log could not be copied into the database file, and keeps what it has.
+    Uncopied(Files<D>),
+    /// It was opened, and not closed: it has no event that can be served, or the store had a fault. The log keeps what it has.
     Unclosed(FileStore<D>),
     /// It could not be opened.
     Unopened(Leftover<D>),

@@ -1,6 +1,8 @@
 //! Whole command lines over a host in memory.
-ghost use Rattle.std.specs.Prelude.{◌≡◌, ℕ, List, [], map, option_and_then, Option, Some, None, is_some};
+ghost use Rattle.std.specs.Prelude.{◌≡◌, ℕ, List, [], map, option_and_then, Option, Some, None, IsTrue, is_some};
 ghost use Rattle.er_cli.specs.World.{World};
+ghost use Rattle.er_desk.specs.Opening.{HoldJust};
+ghost use Rattle.sqlite.specs.Files.{image_of};
 ghost use Rattle.std.specs.Option.{option_map};
 ghost use Rattle.er_cli.specs.Clients.{Got};
 ghost use Rattle.er_cli_tests.specs.Room.{room_image};
@@ -25,6 +27,18 @@ struct Room {
     visitors: Option<Queue>,
     /// Those who were listened to.
     gone: Option<Queue>,
+    is_held: bool,
+}
+
+/// An opening begins with nothing pending. It says whether that is so now.
+fn settle<D: Disk>(files: &mut Files<D>) -> bool
+    requires log { IsTrue (D.Disk.is_usable files.old.log) }
+    requires db { IsTrue (D.Disk.is_usable files.old.db) }
+    ensures just { IsTrue result → HoldJust D.Disk (image_of D.Disk files.old) files.new }
+    ensures log { IsTrue result → IsTrue (D.Disk.is_usable files.new.log) }
+    ensures db { IsTrue result → IsTrue (D.Disk.is_usable files.new.db) }
+{
+    files.log.sync().is_ok() && files.db.sync().is_ok()
 }
 
 impl Host for Room {
@@ -37,6 +51,7 @@ impl Host for Room {
     ghost world = { λ room. record {
       image = λ _. room_image room.files;
       is_there = λ _. Some room.is_there;
+      lengths = None;
       list = λ _. Some room.list.items;
       coming = λ _. option_map (λ queue. map (λ input. input.items) queue.coming.items) room.visitors;
     } };
@@ -45,6 +60,8 @@ impl Host for Room {
         record { bytes = Some it.bytes.items; failed = it.has_failed }) gone.items) queue.gone) room.gone };
 
     ghost is_shut = { λ room. is_some room.files };
+
+    ghost is_held = { λ room. room.is_held };
 
     fn is_there(&self, _path: &str) -> io::Result<bool> {
         Ok(self.is_there)
@@ -55,12 +72,16 @@ impl Host for Room {
     }
 
     fn open(&mut self, _path: &str) -> Opened<Memory> {
-        let Some(files) = self.files.take() else {
+        let Some(mut files) = self.files.take() else {
             unreachable!()
         };
         if !files.log.may_be_used() || !files.db.may_be_used() {
             return Err((Error::SqliteFailure(ErrorCode::CannotOpen), None));
         }
+        if !settle(&mut files) {
+            return Err((Error::SqliteFailure(ErrorCode::OutOfMemory), None));
+        }
+        self.is_held = true;
         match Connection::open_files(self.alloc, files, Options::new(7)) {
             Ok(conn) => Ok(conn),
             Err((error, left)) => Err((error, Some(left))),
@@ -107,6 +128,27 @@ fn is_answered(room: &Room, line: &str, out: &[u8], err: &[u8], answer: &str) ->
     out == answer.as_bytes() && err.is_empty() && are_served
 }
 
+/// Runs the words of a line. That it has no clause keeps the proofs of its callers short.
+fn run_in(
+    alloc: Global,
+    room: &mut Room,
+    words: &[String],
+    out: &mut Vec<u8>,
+    err: &mut Vec<u8>,
+) -> Outcome<Memory>
+    requires { IsTrue (is_some room.old.files) }
+{
+    run_on(alloc, room, words, out, err)
+}
+
+/// The files that were closed.
+fn closed(left: Remains<Memory>) -> Option<Files<Memory>> {
+    match left {
+        Remains::Closed(files) => Some(files),
+        _ => None,
+    }
+}
+
 /// The files that a command line leaves, if it ends well and prints this and no error.
 fn left_by(
     alloc: Global,
@@ -122,17 +164,15 @@ fn left_by(
         list: Vec::from_slice(alloc, b"name\nAna\nBo\n").ok()?,
         visitors: two_clients(alloc),
         gone: None,
+        is_held: false,
     };
     let (mut out, mut err) = (Vec::new(alloc), Vec::new(alloc));
     let words = words(alloc, line)?;
-    let Outcome { status, left } = run_on(alloc, &mut room, words.as_slice(), &mut out, &mut err);
+    let Outcome { status, left } = run_in(alloc, &mut room, words.as_slice(), &mut out, &mut err);
     if status != 0 || !is_answered(&room, line, &out, &err, answer) {
         return None;
     }
-    match left {
-        Remains::Closed(files) => Some(files),
-        _ => None,
-    }
+    closed(left)
 }
 
 /// Whether each of the lines is answered so, over the files that the one before it left.
@@ -177,10 +217,11 @@ fn is_absent(alloc: Global) -> Option<bool> {
         list: Vec::new(alloc),
         visitors: None,
         gone: None,
+        is_held: false,
     };
     let (mut out, mut err) = (Vec::new(alloc), Vec::new(alloc));
     let words = words(alloc, "start friday.event")?;
-    let Outcome { status, left } = run_on(alloc, &mut room, words.as_slice(), &mut out, &mut err);
+    let Outcome { status, left } = run_in(alloc, &mut room, words.as_slice(), &mut out, &mut err);
     Some(status == 1 && out.is_empty() && room.files.is_some() && matches!(left, Remains::Nothing))
 }
 

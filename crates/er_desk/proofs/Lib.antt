@@ -4,6 +4,7 @@ mod Turns
 mod Running
 mod Plain
 mod Adopting
+mod Unopened
 mod Opened
 mod Slips
 mod NextSession

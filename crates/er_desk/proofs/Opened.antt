@@ -5,7 +5,7 @@ use Rattle.sqlite_disk.specs.declared.Files.{Files}
 use Rattle.sqlite_store.specs.declared.store.FileStore.{FileStore}
 use Rattle.sqlite_wal.specs.Recovery.{Image}
 use Rattle.sqlite.specs.{Effect.{Database, IsDatabase}, State.{Opens, IsLive, HasCleanDisk}, Start.FindsIn, Held.Held}
-use Rattle.sqlite.specs.Files.{AreFoundIn, FailsToOpenFiles, IsCleanLeft, LeavesFiles, file_state, image_of, over_files}
+use Rattle.sqlite.specs.Files.{AreFoundIn, FailsToOpenFiles, IsCleanLeft, LeavesFiles, file_state, over_files}
 use Rattle.sqlite.specs.declared.{error.Error.Error, error.Error.TheVariants.SqliteFailure, file.Leftover.Leftover}
 use Rattle.sqlite.specs.declared.error.ErrorCode.TheVariants.{CannotOpen, DatabaseBusy, OutOfMemory}
 use Rattle.er_event.specs.{Change.initial_event, Event.EventValue, Sound.AreLimits, declared.refusals.Refusal.Refusal}
@@ -18,8 +18,9 @@ use Rattle.er_desk.specs.declared.opening.OpenFault.TheVariants.{Unopened, Refus
 use Rattle.er_desk.specs.Begins.{HasAdopted, HasNotAdopted, HasCreated, HasNotCreated}
 use Rattle.er_desk.specs.Desk.{DeskState, Placed, HoldsOwnEvent, IsStoredAt, state, version_in}
 use Rattle.er_desk.specs.{Headline.Recovers, Files.{HasOpened, HasNotOpened, OpensFile, HasMade, HasNotMade, MakesFile}}
-use Rattle.er_desk.specs.Opening.{FromOpened, OpensImage, SparesAt}
+use Rattle.er_desk.specs.Opening.{FromOpened, HoldJust, OpensImage, SparesAt}
 use Rattle.er_desk.proofs.Adopting.{is_fault, opened_represents, opened_empty, opened_awaits, sees_unchanged, sees_kept}
+use Rattle.er_desk.proofs.Unopened.{stays_there}
 
 module _ {D : Type 0} {g : Ghosts D} (image : Image) where
   -- what the storage crate says of a connection to files that it opened
@@ -54,6 +55,7 @@ module _ {D : Type 0} {g : Ghosts D} (image : Image) where
         why = it.why;
         unopened = tt;
         spared = tt;
+        again = λ placed was. tt;
         first = λ clean.
             let early = it.left.clean clean in
             let live = opened early in (
@@ -124,6 +126,7 @@ module _ {D : Type 0} {g : Ghosts D} (image : Image) where
         ];
         unopened = tt;
         spared = tt;
+        again = λ placed was. tt;
         exists = λ is clean.
             let early = it.clean clean in
             let live = opened early in
@@ -171,6 +174,7 @@ module _ {D : Type 0} {g : Ghosts D} (image : Image) where
     why = inr (inl (is_fault error));
     unopened = is_fault error;
     spared = spared;
+    again = stays_there image error left spared;
     first = tt;
     found = λ point was sound clean. is_fault error;
     kept = λ db holds. tt;
@@ -183,6 +187,7 @@ module _ {D : Type 0} {g : Ghosts D} (image : Image) where
     why = inr (is_fault error);
     unopened = is_fault error;
     spared = spared;
+    again = stays_there image error left spared;
     exists = λ is. tt;
     spares = λ placed was. tt;
     crash = λ awaits. tt;
@@ -215,7 +220,7 @@ module _ {D : Type 0} {g : Ghosts D} (image : Image) where
 
 -- What the storage crate says of files at a path, whatever these held. Neither has had a call since it was opened.
 module _ {D : Type 0} {g : Ghosts D} (image : Image) (IsFreshLog IsFreshDb : D → Type 0)
-    (same : (files : Files D) → IsFreshLog files.log → IsFreshDb files.db → image_of g files ≡ image) where
+    (same : (files : Files D) → IsFreshLog files.log → IsFreshDb files.db → HoldJust g image files) where
   spared_at : (error : Error) (left : Option (Leftover D g))
       → (left ≡ None → (error ≡ SqliteFailure CannotOpen) ⊎ ((error ≡ SqliteFailure OutOfMemory) ⊎ (error ≡ SqliteFailure DatabaseBusy)))
       → IfSome left (λ it. (files : Files D) × IsFreshLog files.log × IsFreshDb files.db

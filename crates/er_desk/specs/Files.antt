@@ -17,10 +17,10 @@ use Rattle.er_store.specs.Representing.{HasTables, AreKeyed, Either, IsStoredIn,
 use Rattle.er_desk.specs.declared.desk.Desk.{Desk}
 use Rattle.er_desk.specs.declared.opening.OpenFault.{OpenFault}
 use Rattle.er_desk.specs.Desk.{Placed, HoldsOwnEvent, IsStoredAt, placed_at, running_at, state, desk_state, version_in}
-use Rattle.er_desk.specs.Headline.{Recovers, FindsAgain, RecoversJust, RepeatsNobody}
+use Rattle.er_desk.specs.Headline.{Recovers, RecoversWhole, FindsAgain, RecoversJust, RepeatsNobody}
 use Rattle.er_desk.specs.History.{new_point}
 use Rattle.er_desk.specs.Opening.{HasAnEvent, HoldsNothing, NoneAwaitsIn, MakesOver, RecoversBeside, HoldsStill, NamesFirstFaultIn, why_of}
-use Rattle.er_desk.specs.Opening.{OnRefused, OnUnopened, SparesAt, WhereUnopened, IsCleanFault}
+use Rattle.er_desk.specs.Opening.{OnRefused, OnUnopened, SparesAt, StaysThere, WhereUnopened, IsCleanFault}
 
 module _ {D : Type 0} {g : Ghosts D} (image : Image) where
   -- The event in the file was found, and the desk is not stopped. Whatever the file holds, it is sound.
@@ -44,6 +44,8 @@ module _ {D : Type 0} {g : Ghosts D} (image : Image) where
     pub unopened : WhereUnopened fault (IsFault (why_of fault))
     -- of files that were not opened, what is left represents what they held, and says why
     pub spared : OnUnopened fault (SparesAt image)
+    -- what a crash left of an event is still there then
+    pub again : (placed : Placed) → RecoversWhole image placed → OnUnopened fault (StaysThere placed)
     pub first : OnRefused fault (λ conn. HasCleanDisk (file_state conn) → NamesFirstFaultIn image (file_state conn) (why_of fault))
     -- of what a crash left of a sound event, memory or the device fails
     pub found : (placed : Placed) → Recovers image placed → IsSound placed.point.event → IsCleanFault fault → IsFault (why_of fault)
@@ -74,6 +76,8 @@ module _ {D : Type 0} {g : Ghosts D} (image : Image) where
       pub unopened : WhereUnopened fault (IsFault (why_of fault))
       -- of files that were not opened, what is left represents what they held, and says why
       pub spared : OnUnopened fault (SparesAt image)
+      -- what a crash left of an event is still there then
+      pub again : (placed : Placed) → RecoversWhole image placed → OnUnopened fault (StaysThere placed)
       -- `EventExists` comes only if something called `event` can be read, and just that is left
       pub exists : why_of fault ≡ EventExists → OnRefused fault (λ conn. HasCleanDisk (file_state conn)
           → (db : Database) × HasAnEvent image db × AfterCrash (file_state conn) (λ trees. trees ≡ db.trees))

@@ -10,6 +10,9 @@ use Rattle.sqlite_trees.specs.declared.store.Store.{Ghosts}
 use Rattle.sqlite.specs.Tree.{Trees}
 use Rattle.sqlite.specs.State.{State}
 use Rattle.sqlite.specs.Files.{HoldsDatabase}
+use Rattle.sqlite.specs.Opening.{HoldsAt}
+use Rattle.sqlite_pool.specs.Stored.{stored_size}
+use Rattle.sqlite_wal.specs.PageSize.{IsPageSize}
 use Rattle.sqlite_wal.specs.Recovery.{Image}
 use Rattle.er_event.specs.declared.commands.Command.{Command}
 use Rattle.er_event.specs.Event.{EventValue}
@@ -44,6 +47,15 @@ IsEmptyFile s = s.now.schema ≡ no_schema
 -- what the file holds is a thing that a crash left of this event
 abbrev pub Recovers : Image → Placed → Type 0
 Recovers image placed = (db : Trees) × ∥ HoldsDatabase image db ∥₁ × IsStoredAt placed db
+
+-- The files recover to a database with these trees at some page size. Each page has its sum, in the log too, if pages of the file end in sums,
+-- as none do that this program makes.
+abbrev pub HoldsWhole : Image → Trees → Type 0
+HoldsWhole image db = (size : ℕ) × IsPageSize (stored_size size) × HoldsAt size image db
+
+-- such a file, which a crash left of this event
+abbrev pub RecoversWhole : Image → Placed → Type 0
+RecoversWhole image placed = (db : Trees) × ∥ HoldsWhole image db ∥₁ × IsStoredAt placed db
 
 -- an opening finds just this event and this serial, in this version: its tables represent them, and a crash leaves them again
 pub record FindsAgain {S : Type 0} (g : Ghosts S) (desk : Desk S g) (placed : Placed) : Type 0 where

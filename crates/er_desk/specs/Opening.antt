@@ -1,10 +1,12 @@
 -- Why a file was not opened.
-use Rattle.std.specs.Prelude.{◌≡◌, ◌⊎◌, ◌≤◌, ℕ, [], IsTrue, IfOk, IfErr, MatchResult, Option, Some, None, Result, Ok, Err}
+use Rattle.std.specs.Prelude.{◌≡◌, ◌⊎◌, ◌≤◌, ℕ, [], IsTrue, IfOk, IfErr, IfSome, MatchResult, Option, Some, None, Result, Ok, Err}
 use Rattle.sqlite_disk.specs.declared.Disk.{Ghosts}
 use Rattle.sqlite_disk.specs.declared.Files.{Files}
 use Rattle.sqlite_store.specs.declared.store.FileStore.{FileStore}
 use Rattle.sqlite_trees.specs.Objects.{catalog_tree}
 use Rattle.sqlite_trees.specs.declared.store.Store as store
+use Rattle.sqlite_store.specs.FileStore.{recovers, view}
+use Rattle.sqlite_wal.specs.Files.{outcomes}
 use Rattle.sqlite_wal.specs.Recovery.{Image}
 use Rattle.sqlite.specs.Tree.{Trees}
 use Rattle.sqlite.specs.Effect.{Database, IsDatabase}
@@ -15,6 +17,8 @@ use Rattle.sqlite.specs.declared.error.Error.{Error}
 use Rattle.sqlite.specs.declared.error.Error.TheVariants.{SqliteFailure}
 use Rattle.sqlite.specs.declared.error.ErrorCode.TheVariants.{CannotOpen, DatabaseBusy, OutOfMemory}
 use Rattle.sqlite.specs.declared.file.Leftover.{Leftover}
+use Rattle.sqlite.specs.declared.file.Leftover.TheVariants as left
+use Rattle.sqlite.specs.Closing.{files_left}
 use Rattle.sqlite.specs.Files.{AreFoundIn, FailsToOpenFiles, IsCleanLeft, IsOpened, LeavesFiles, file_state, image_of, over_files}
 use Rattle.sqlite.specs.Start.{FindsIn}
 use Rattle.er_event.specs.declared.refusals.Refusal.{Refusal}
@@ -33,7 +37,8 @@ use Rattle.er_store.specs.Beside.{IsStoredBeside, HoldsBeside, NoneAwaitsFive}
 use Rattle.er_store.specs.Reading.{KeepsTables}
 use Rattle.er_store.specs.Representing.{CanRead, Either, IsStoredIn, AfterCrash, ReadsEvent}
 use Rattle.er_desk.specs.declared.desk.Desk.{Desk}
-use Rattle.er_desk.specs.Desk.{Point, state}
+use Rattle.er_desk.specs.Desk.{Point, Placed, IsStoredAt, state}
+use Rattle.er_desk.specs.Headline.{Recovers, RecoversWhole}
 use Rattle.er_desk.specs.declared.opening.OpenFault.{OpenFault}
 use Rattle.er_desk.specs.declared.opening.OpenFault.TheVariants.{Unopened, Refused}
 
@@ -118,6 +123,10 @@ NewFilesAwaitNone = (image : Image) → HoldsNothing image → NoneAwaitsIn imag
 abbrev pub HoldsStill : State → Trees → Type 0
 HoldsStill s db = HasCleanDisk s → IsTrue s.is_open → (s.now.trees ≡ db) × (s.now ≡ s.committed)
 
+-- the files hold this, and nothing is pending in them: a crash leaves just this
+abbrev pub HoldJust : {D : Type 0} → Ghosts D → Image → Files D → Type 0
+HoldJust g image files = (image_of g files ≡ image) × ((left : Image) → outcomes g files.log files.db left → left ≡ image)
+
 module _ {D : Type 0} {g : Ghosts D} where
   -- What the storage crate says of files that it did not open. Nothing is left of them only if they can't be had: by the system, because
   -- memory ran out, or since another program holds them. What is left represents what the files held, and they are why.
@@ -125,7 +134,24 @@ module _ {D : Type 0} {g : Ghosts D} where
   SparesAt image error None =
       (error ≡ SqliteFailure CannotOpen) ⊎ (error ≡ SqliteFailure OutOfMemory) ⊎ (error ≡ SqliteFailure DatabaseBusy)
   SparesAt image error (Some left) =
-      (files : Files D) × (image_of g files ≡ image) × (IsCleanLeft left → FailsToOpenFiles files left error × LeavesFiles files left)
+      (files : Files D) × HoldJust g image files × (IsCleanLeft left → FailsToOpenFiles files left error × LeavesFiles files left)
+
+  -- of a store, if the opening had come so far
+  abbrev pub OfStore : Leftover D g → (FileStore D g → Type 0) → Type 0
+  OfStore (left.Files files) Is = Unit {0}
+  OfStore (left.Unopened files) Is = Unit {0}
+  OfStore (left.Store store) Is = Is store
+
+  -- What is left of files that were not opened. What a store would find after a crash, by its own list of tables, represents the event. So do
+  -- the bytes that a crash may leave: of a store, if it lists its tables by number.
+  pub record StaysLeft (placed : Placed) (left : Leftover D g) : Type 0 where
+    pub finds : OfStore left (λ store. (trees : Trees) → recovers store trees → IsStoredAt placed trees)
+    pub bytes : OfStore left (λ store. IsTrue (view store).is_numbered)
+        → (image : Image) → outcomes g (files_left left).0 (files_left left).1 image → Recovers image placed × RecoversWhole image placed
+
+  -- Files that were not opened held what a crash left of this event: it is still there, on a clean disk.
+  abbrev pub StaysThere : Placed → Error → Option (Leftover D g) → Type 0
+  StaysThere placed error rest = IfSome rest (λ left. IsCleanLeft left → StaysLeft placed left)
 
   -- What an opening gives of files that hold this: a new connection, which finds it; or why there is none, and what is left.
   pub record OpensImage (image : Image) (opened : Result (Held (FileStore D g)) (Error × Option (Leftover D g))) : Type 0 where

@@ -37,6 +37,7 @@ module _ {D : Type 0} {d : disk.Ghosts D} where
   over_clean Is s (Ok files) over is = λ clean. is (over clean).was_clean
   over_clean Is s (Err left.Nothing) none is = absurd none
   over_clean Is s (Err (left.Closed files)) closed is = λ clean. is (closed clean).0
+  over_clean Is s (Err (left.Uncopied files)) closed is = λ clean. is (closed clean).0
   over_clean Is s (Err (left.Unclosed store)) keeps is = λ clean. is (keeps.was_clean clean)
   over_clean Is s (Err (left.Unopened rest)) none is = absurd none
 
@@ -45,6 +46,7 @@ module _ {D : Type 0} {d : disk.Ghosts D} where
   over_opened files why s (Ok now) over = tt
   over_opened files why s (Err left.Nothing) none = absurd none
   over_opened files why s (Err (left.Closed now)) closed = tt
+  over_opened files why s (Err (left.Uncopied now)) closed = tt
   over_opened files why s (Err (left.Unclosed store)) keeps = tt
   over_opened files why s (Err (left.Unopened rest)) none = absurd none
 
@@ -53,6 +55,7 @@ module _ {D : Type 0} {d : disk.Ghosts D} where
   over_put s (Ok files) over = tt
   over_put s (Err left.Nothing) none = absurd none
   over_put s (Err (left.Closed files)) closed = tt
+  over_put s (Err (left.Uncopied files)) closed = tt
   over_put s (Err (left.Unclosed store)) keeps = tt
   over_put s (Err (left.Unopened rest)) none = absurd none
 
@@ -81,13 +84,23 @@ module _ {D : Type 0} {d : disk.Ghosts D} where
             };
           },
         )
+    over_next s (Err (left.Uncopied files)) closed leaves = λ clean.
+        let (was_clean, it) = closed clean in
+        let (version, within, next) = leaves was_clean it.db it.is in (
+          placed_at next.last version,
+          within,
+          record {
+            seen = finds In new ends session begins (image_of d files) it.db version next it.seen;
+            left = λ image may. finds In new ends session begins image it.db version next (it.later image may);
+          },
+        )
     over_next s (Err (left.Unclosed store)) keeps leaves = λ clean.
         let ends_in : (trees : Trees) → recovers store trees → BeginsIn In new ends session trees =
         λ trees may. leaves (keeps.was_clean clean) trees (keeps.as_before trees may) in
         record {
           begins = ends_in;
-          left = λ numbered image may. ∥∥₁_map
-              (opens_again store numbered (keeps.sound clean) image
+          left = λ image may. ∥∥₁_map
+              (opens_again store (keeps.numbered clean) (keeps.sound clean) image
               (may_leave_is store.pool image (subst IsTrue (clean_is store.pool) (sure _ clean)) may))
               (λ found. finds_in In new ends session begins image found.0 (ends_in found.0 found.1) found.2);
         }

@@ -42,6 +42,7 @@ fn cut<D: Disk + Drop>(conn: Connection<FileStore<D>>) -> Files<D>
 
 /// Closes the files of a connection, or cuts it off if a fault of the store came before.
 fn let_go<D: Disk + Drop>(
+    alloc: Global,
     conn: Connection<FileStore<D>>,
     is_over: bool,
 ) -> Result<Files<D>, Remains<D>>
@@ -50,7 +51,7 @@ fn let_go<D: Disk + Drop>(
     if is_over {
         return Ok(cut(conn));
     }
-    match close(conn) {
+    match close(alloc, conn) {
         Remains::Closed(files) => Ok(files),
         left => Err(left),
     }
@@ -100,7 +101,7 @@ fn hold<D: Disk + Drop>(
     ensures { AsksOver desk questions.items result.answers result.files }
 {
     let (asked, is_over, conn) = ask_and_close(alloc, desk, questions);
-    let files = let_go(conn, is_over);
+    let files = let_go(alloc, conn, is_over);
     match asked {
         Ok(answers) => SessionEnd {
             answers: Ok(answers),

@@ -5,7 +5,7 @@ use Rattle.er_cli.proofs.closing.put_away.Goals as goal
 pub returns-then-is_over : goal.returns-then-is_over
 returns-then-is_over g c = record {
   closes = same_put_away c.into_connection-conn.result _ c.keep_open.result c.into_connection-conn.ensures.same c.keep_open.ensures.taken;
-  spared = λ stopped. c.keep_open.ensures.numbered;
+  spared = λ stopped. c.keep_open.ensures.unclosed;
 }
 
 pub returns-else-is_over : goal.returns-else-is_over

@@ -10,7 +10,7 @@ returns-in-Init-clause-ends g c =
       sym (ap (λ (parts : List ℕ × Action). parts.1) c.file_and_action-file.ensures),
       c.in-Init.is,
     ) (
-    rw (sym c.as_slice.ensures, sym c.as_str-path.ensures) c.make.ensures
+    rw (sym c.as_slice.ensures, sym c.as_str-path.ensures) c.make.ensures.ends
     )
 
 pub returns-in-Ok-clause-ends : goal.returns-in-Ok-clause-ends
@@ -34,7 +34,7 @@ returns-in-Init-clause-goes_on g c =
     init_goes_on g.H.File.Disk (g.H.Host.world c.args.host.now) c.as_str-path.result.now c.make.result.left
     (prints (g.O.Print.printed c.args.out.now) (g.O.Print.printed c.make.new.out) (g.E.Print.printed c.args.err.now)
     (g.E.Print.printed c.make.new.err) c.make.result.status) (g.H.Host.got c.make.new.host)
-    c.as_slice.result.now c.in-Init.rounds c.in-Init.cut c.make.ensures
+    c.as_slice.result.now c.in-Init.rounds c.in-Init.cut c.make.ensures.ends
     )
     )
 

@@ -1,0 +1,12 @@
+-- What er_copy promises: copying the log of two files loses nothing, however far it gets.
+--
+-- Copied says what holds a database in each thing that a crash may leave, of the two files and of the database file alone.
+--
+-- Which contract carries it:
+--   `copy_files`, clause `keeps`: at each exit, whatever failed, the two files hold what they held. Clause `copied`: if it says so, the
+--     database file holds it alone.
+--
+-- Not promised: that it is copied; then the log keeps what it has.
+--
+-- Wrong bodies that bear on the theorem: `empties_before_it_copies`, `copies_nothing`, `cuts_the_database`, `opens_the_empty_log`.
+pub mod Copied
