@@ -46,7 +46,8 @@ module _ {D : Type 0} {g : Ghosts D} (stays : SeenMayStay g) where
         found = (settled store.pool stays is_open).durable left may;
         reads = rw (clean_of (state store) is_open);
         sound = schema.1;
-        ours = subst (λ b. IsOurs (state store).page_size b (kept_schema store.saved store.schema.items) (state store).committed) numbered stored.ours;
+        ours = subst (λ b. IsOurs (state store).page_size b (kept_schema store.saved store.schema.items) (state store).committed)
+            numbered stored.ours;
       } in held)
 
   module _ (conn : Held (FileStore D g)) (store : FileStore D g) (broken : Bool)

@@ -478,7 +478,11 @@ module _ {D : Type 0} (d : disk.Ghosts D) (world : World) (file : List ℕ) (wha
       again = λ whole. put_unopened (λ rest. IsCleanLeft rest → LeavesAgain d new ends first rest) (state over_files desk) what put.closes;
     }
     no_other name rounds cut told (inr (inl (set_up, (why, is, none)))) =
-        record { refused = λ opened. (why, is, inr none.cause); leaves = none.stays new ends first was; again = none.again new ends first was }
+        record {
+          refused = λ opened. (why, is, inr none.cause);
+          leaves = none.stays new ends first was;
+          again = none.again new ends first was;
+        }
     no_other name rounds cut told (inr (inr (unlawful, is, nothing))) = record {
       refused = λ opened. (BadSetup, is, inl refl);
       leaves = subst (λ (left : Remains D d). RecoversSession d (Stays first.version) new ends no_session left) (sym nothing) tt;

@@ -172,7 +172,8 @@ module _ {D : Type 0} {d : disk.Ghosts D} where
   pub cleared_held : (why : OpenFault D d) (what : Remains D d) (first was is : Bool) → IsClearedOf why what
       → OnUnopened why (λ error rest. rest ≡ None → was ≡ first) → LetsNoneGo what was is → LetsNoneGo what first is
   cleared_held (fault.Unopened error None) what first was is cleared held lets = λ nothing. lets nothing ∙ held refl
-  cleared_held (fault.Unopened error (Some rest)) what first was is cleared held lets = λ nothing. absurd (let both = sym cleared ∙ nothing in cc)
+  cleared_held (fault.Unopened error (Some rest)) what first was is cleared held lets = λ nothing.
+      absurd (let both = sym cleared ∙ nothing in cc)
   cleared_held (fault.Refused conn refusal) what first was is cleared held lets = put_held (file_state conn) what first is cleared
 
   named : (image : Image) (why : OpenFault D d) (said : Refusal) → said ≡ why_of why

@@ -18,7 +18,8 @@ use Rattle.sqlite.specs.{Tree.Trees, Effect.{Database, IsDatabase}, State.HasCle
 use Rattle.er_store.specs.{Fault.IsFault, Beside.IsStoredBeside, Representing.{Either, IsStoredIn, AfterCrash}}
 use Rattle.er_desk.specs.declared.opening.{OpenFault.OpenFault, OpenFault.TheVariants.Unopened as NotOpened}
 use Rattle.er_desk.specs.declared.opening.OpenFault.TheVariants.{Refused as OpenedInVain}
-use Rattle.er_desk.specs.{Desk.{Point, Placed, IsStoredAt}, Opening.{HasAnEvent, NoneAwaitsIn, RecoversBeside, OnRefused, OnUnopened, why_of}}
+use Rattle.er_desk.specs.Desk.{Point, Placed, IsStoredAt}
+use Rattle.er_desk.specs.Opening.{HasAnEvent, NoneAwaitsIn, RecoversBeside, OnRefused, OnUnopened, why_of}
 use Rattle.er_desk.specs.Opening.{SparesAt, StaysThere, WhereUnopened}
 use Rattle.er_cli.specs.declared.remains.{Remains.Remains, Remains.TheVariants.Nothing, OpenError.OpenError}
 use Rattle.er_cli.specs.{Remains.{IsClearedOf, RecoversSuch}, Files.{HasMadeNone, MakesEvent}}

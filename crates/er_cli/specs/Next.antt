@@ -62,9 +62,11 @@ RecoversSession d In new ends session (left.Uncopied files) =
 RecoversSession d In new ends session (left.Unclosed store) = IsClean (view store) → KeepsNext d In new ends session store
 RecoversSession d In new ends session (left.Unopened rest) = Unit {0}
 
--- What is left of files that could not be opened. What a store would find after a crash, by its own list of tables, is the end of the history.
--- The bytes that a crash may leave were left by that history, each page with its sum: of a store, if it lists its tables by number.
-pub record LeavesAgain {D : Type 0} (d : disk.Ghosts D) (new : Point) (ends : List Ended) (first : Placed) (rest : Leftover D d) : Type 0 where
+-- What is left of files that could not be opened. What a store would find after a crash, by its own list of tables, is the end of the
+-- history. The bytes that a crash may leave were left by that history, each page with its sum: of a store, if it lists its tables by
+-- number.
+pub record LeavesAgain {D : Type 0} (d : disk.Ghosts D) (new : Point) (ends : List Ended) (first : Placed) (rest : Leftover D d)
+    : Type 0 where
   pub finds : OfStore rest (λ store. (trees : Trees) → recovers store trees → IsStoredAt first trees)
   pub bytes : OfStore rest (λ store. IsTrue (view store).is_numbered)
       → (image : Image) → outcomes d (files_left rest).0 (files_left rest).1 image

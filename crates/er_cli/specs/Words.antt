@@ -45,14 +45,15 @@ Does g world got desk task last p = TellsAndLeaves
     (λ (work : Work). WorksOn g desk work last)
 
 -- Any history that left the file goes on with this work, and the answer is that of the event at its end.
-pub record GoesOnWith {D : Type 0} (d : disk.Ghosts D) (image : Image) (task : Task) (work : Work) (what : Remains D d) (p : Printed) (new : Point)
-    (first : Placed) (ends : List Ended) : Type 0 where
+pub record GoesOnWith {D : Type 0} (d : disk.Ghosts D) (image : Image) (task : Task) (work : Work) (what : Remains D d) (p : Printed)
+    (new : Point) (first : Placed) (ends : List Ended) : Type 0 where
   pub told : AnswersTask (WasOpenedClean what) first task work p
   pub file : GoesOnBy d image new ends first work what
 
 abbrev pub GoOnWith : {D : Type 0} (d : disk.Ghosts D) → Image → Task → Work → Remains D d → Printed → Type 0
 GoOnWith d image task work what p =
-    (new : Point) (first : Placed) (ends : List Ended) → RecoversHistory image new ends first → GoesOnWith d image task work what p new first ends
+    (new : Point) (first : Placed) (ends : List Ended) → RecoversHistory image new ends first
+    → GoesOnWith d image task work what p new first ends
 
 module _ {D : Type 0} (g : disk.Ghosts D) (world : World) (got : Option (List Got)) (file : List ℕ) (what : Remains D g) (p : Printed) where
   -- Over a file that may hold anything, a line makes an event. Or it opens the event there, does one task with it and puts its file away;

@@ -16,8 +16,8 @@ use sqlite_disk::Disk;
 use sqlite_trees::store::Store;
 use std::alloc::Global;
 
-/// What the second half of a log's salts is made from. `copy_files` is proved for each seed, and the first half counts up, so that the salts
-/// of two logs in a row differ.
+/// What the second half of a log's salts is made from. `copy_files` is proved for each seed, and the first half counts up, so that the
+/// salts of two logs in a row differ.
 const SALT_SEED: u64 = 0;
 
 /// The store of a connection, with what is not committed rolled back. Others call this one, so that the proof of a generic call at the

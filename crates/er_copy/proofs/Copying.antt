@@ -90,7 +90,8 @@ stops_longer it log kept longer none stops cut =
       };
     }
 
-module _ {D : Type 0} (g : Ghosts D) (stays : SeenMayStay g) (files probed : Files D) (found : Option PageSize) (chosen : PageSize) (is : found ≡ Some chosen)
+module _ {D : Type 0} (g : Ghosts D) (stays : SeenMayStay g) (files probed : Files D) (found : Option PageSize) (chosen : PageSize)
+    (is : found ≡ Some chosen)
     (looks : Probes g files probed found) (old new : Log D g) (opened : log.files old ≡ (probed.log, probed.db))
     (sized : (log.state old).page_size ≡ bytes_of chosen) (keeps : KeepsLog old new)
     (clean : AreClean g (log.files new).0 (log.files new).1) (size : ℕ) (db : Trees) (all : HoldAll g files size db) where
@@ -104,8 +105,10 @@ module _ {D : Type 0} (g : Ghosts D) (stays : SeenMayStay g) (files probed : Fil
   unfolding seen holds_of
   size_is held =
       sized ∙ sym (probe_size seen found
-      (λ read. subst (λ (o : Option PageSize). IfSome o (λ _. AreClean g probed.log probed.db → (IsIgnored (g.seen files.log) → ⊥) → Names found (be32 (g.seen files.log) 8))) is looks.by_log probed_clean read)
-      (λ ignored. subst (λ (o : Option PageSize). IfSome o (λ _. AreClean g probed.log probed.db → IsIgnored (g.seen files.log) → Names found (size_in_file (g.seen files.db)))) is looks.by_file probed_clean ignored)
+      (λ read. subst (λ (o : Option PageSize). IfSome o (λ _. AreClean g probed.log probed.db → (IsIgnored (g.seen files.log) → ⊥) →
+      Names found (be32 (g.seen files.log) 8))) is looks.by_log probed_clean read)
+      (λ ignored. subst (λ (o : Option PageSize). IfSome o (λ _. AreClean g probed.log probed.db → IsIgnored (g.seen files.log) →
+      Names found (size_in_file (g.seen files.db)))) is looks.by_file probed_clean ignored)
       db (holds_of size seen db all.allowed held) chosen is)
 
   pub kept_at : (left : Image) → (log.state new).may_leave left → ∥ HoldsAt size left db ∥₁
@@ -137,12 +140,14 @@ module _ {D : Type 0} (g : Ghosts D) (stays : SeenMayStay g) (files probed : Fil
   alone_at none left may =
       let open_now = open_from (log.state new) none.is_ready clean in
       let kept = (sound_of new open_now).db_safe left.db may.1.1 in
-      let empty : length (log.durable new).numbers ≡ 0 = durable_frames new none.is_ready ∙ omega (arith, new.marked none.is_ready, none.none) in
+      let empty : length (log.durable new).numbers ≡ 0 = durable_frames new none.is_ready ∙ omega
+      (arith, new.marked none.is_ready, none.none) in
       let found : raw.Recovers new.page_size (record { log = []; db = left.db }) (log.state new).committed = record {
         frames = 0;
         replays = inl (inl (omega arith), refl);
         present = kept.present;
-        gives = ap (λ d. raw.pages_after new.page_size [] d 0) (kept.all empty) ∙ pages_without_frames new.page_size [] (g.seen new.log) (g.seen new.db)
+        gives = ap (λ d. raw.pages_after new.page_size [] d 0) (kept.all empty) ∙ pages_without_frames new.page_size []
+            (g.seen new.log) (g.seen new.db)
             ∙ ap (raw.pages_after new.page_size (g.seen new.log) (g.seen new.db)) (sym empty);
       } in
       same_commit none left (record left { log = [] }) may found
@@ -153,7 +158,8 @@ module _ {D : Type 0} (g : Ghosts D) (stays : SeenMayStay g) (files probed : Fil
   longer_at none left longer may cut =
       let open_now = open_from (log.state new) none.is_ready clean in
       let sound = sound_of new open_now in
-      let empty : length (log.durable new).numbers ≡ 0 = durable_frames new none.is_ready ∙ omega (arith, new.marked none.is_ready, none.none) in
+      let empty : length (log.durable new).numbers ≡ 0 = durable_frames new none.is_ready ∙ omega
+      (arith, new.marked none.is_ready, none.none) in
       let stops = stops_longer (log.durable new) (g.seen new.log) left.log longer empty (sound.log_safe left.log may.1.0) cut in
       let found : raw.Recovers new.page_size (record { log = longer; db = left.db }) (log.state new).committed =
       recovers_stopped (log.durable new) (g.seen new.log) (g.seen new.db) longer left.db sound.ready.shown stops

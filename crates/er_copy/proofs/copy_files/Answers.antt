@@ -9,8 +9,9 @@ returns-then-not-copy-clause-keeps g c clean size db all =
     let sure = subst (λ p. AreClean g.D.Disk p.0 p.1) c.into_files.ensures clean in
     record {
       allowed = all.allowed;
-      each = λ left may. kept_at g.D.Disk g.met.D.Disk.seen_may_stay c.args.files c.page_size.new.files c.page_size.result c.in-Some.size c.in-Some.is
-          c.page_size.ensures c.in-Ok.log c.copy.new.log c.in-Ok.ensures.files c.in-Ok.ensures.size c.copy.ensures.keeps sure size db all
+      each = λ left may. kept_at g.D.Disk g.met.D.Disk.seen_may_stay c.args.files c.page_size.new.files c.page_size.result
+          c.in-Some.size c.in-Some.is c.page_size.ensures c.in-Ok.log c.copy.new.log c.in-Ok.ensures.files
+          c.in-Ok.ensures.size c.copy.ensures.keeps sure size db all
           left (sure, subst (λ p. outcomes g.D.Disk p.0 p.1 left) c.into_files.ensures may);
     }
 
@@ -20,9 +21,11 @@ returns-clause-keeps g c clean size db all =
     let sure = subst (λ p. AreClean g.D.Disk p.0 p.1) c.into_files-copied.ensures (and_from _ _ (c.lengthen.ensures.clean both.0) both.1) in
     record {
       allowed = all.allowed;
-      each = λ left may. longer_kept g.D.Disk g.met.D.Disk.seen_may_stay c.args.files c.page_size.new.files c.page_size.result c.in-Some.size
-          c.in-Some.is c.page_size.ensures c.in-Ok.log c.copy.new.log c.in-Ok.ensures.files c.in-Ok.ensures.size c.copy.ensures.keeps sure size db all
-          (c.copy.ensures.copied c.if-not-copy.false) c.into_files-copied.result c.lengthen.new.log c.into_files-copied.ensures c.lengthen.ensures.crash left may;
+      each = λ left may. longer_kept g.D.Disk g.met.D.Disk.seen_may_stay c.args.files c.page_size.new.files c.page_size.result
+          c.in-Some.size c.in-Some.is c.page_size.ensures c.in-Ok.log c.copy.new.log c.in-Ok.ensures.files
+          c.in-Ok.ensures.size c.copy.ensures.keeps sure size db all
+          (c.copy.ensures.copied c.if-not-copy.false) c.into_files-copied.result c.lengthen.new.log
+          c.into_files-copied.ensures c.lengthen.ensures.crash left may;
     }
 
 pub returns-clause-copied : goal.returns-clause-copied
@@ -30,7 +33,9 @@ returns-clause-copied g c done clean size db all =
     let both = and_parts _ _ clean in
     let sure = subst (λ p. AreClean g.D.Disk p.0 p.1) c.into_files-copied.ensures (and_from _ _ (c.lengthen.ensures.clean both.0) both.1) in
     record {
-      each = λ left may. longer_alone g.D.Disk g.met.D.Disk.seen_may_stay c.args.files c.page_size.new.files c.page_size.result c.in-Some.size
-          c.in-Some.is c.page_size.ensures c.in-Ok.log c.copy.new.log c.in-Ok.ensures.files c.in-Ok.ensures.size c.copy.ensures.keeps sure size db all
-          (c.copy.ensures.copied c.if-not-copy.false) c.into_files-copied.result c.lengthen.new.log c.into_files-copied.ensures c.lengthen.ensures.crash left may;
+      each = λ left may. longer_alone g.D.Disk g.met.D.Disk.seen_may_stay c.args.files c.page_size.new.files c.page_size.result
+          c.in-Some.size c.in-Some.is c.page_size.ensures c.in-Ok.log c.copy.new.log c.in-Ok.ensures.files
+          c.in-Ok.ensures.size c.copy.ensures.keeps sure size db all
+          (c.copy.ensures.copied c.if-not-copy.false) c.into_files-copied.result c.lengthen.new.log
+          c.into_files-copied.ensures c.lengthen.ensures.crash left may;
     }

@@ -1,5 +1,6 @@
 use Rattle.std.proofs.Common.{inl, inr, None}
-use Rattle.er_cli.proofs.{GoingOn.{goes_on_with, task_goes_on, unopened_goes_on}, Hosting.does_before, Leaving.{cleared_held, not_opened, put_held}}
+use Rattle.er_cli.proofs.{GoingOn.{goes_on_with, task_goes_on, unopened_goes_on}, Hosting.does_before}
+use Rattle.er_cli.proofs.Leaving.{cleared_held, not_opened, put_held}
 use Rattle.er_cli.proofs.files.open.Goals as goal
 
 pub returns-in-Err-clause-ends : goal.returns-in-Err-clause-ends
@@ -44,7 +45,8 @@ returns-in-Ok-clause-ends g c =
       it.2,
       λ new first ends was.
           let law = c.next_sessions.ensures in
-          goes_on_with law image new first ends was _ c.do_and_close.result.left world _ _ c.args.task c.in-Ok.desk it.0 c.in-Ok.ensures.opens.ready
+          goes_on_with law image new first ends was _ c.do_and_close.result.left world _ _ c.args.task
+          c.in-Ok.desk it.0 c.in-Ok.ensures.opens.ready
           (record {
             finds = c.in-Ok.ensures.opens.found first was.left (law new first.point ends was.begins was.history).sound;
             sees =
@@ -69,8 +71,8 @@ returns-in-Ok-clause-goes_on g c new first ends was =
 
 pub returns-in-Err-clause-held : goal.returns-in-Err-clause-held
 returns-in-Err-clause-held g c =
-    rw c.tell_no_desk.ensures.left (cleared_held c.in-Err.fault c.clear_fault.result.left _ _ _ c.clear_fault.ensures.left c.in-Err.ensures.held
-    c.clear_fault.ensures.held)
+    rw c.tell_no_desk.ensures.left (cleared_held c.in-Err.fault c.clear_fault.result.left _ _ _
+    c.clear_fault.ensures.left c.in-Err.ensures.held c.clear_fault.ensures.held)
 
 pub returns-in-Ok-clause-held : goal.returns-in-Ok-clause-held
 returns-in-Ok-clause-held g c = put_held _ c.do_and_close.result.left _ _ c.do_and_close.ensures.2.closes

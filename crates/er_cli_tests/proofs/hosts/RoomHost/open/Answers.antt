@@ -28,8 +28,12 @@ returns-in-Err-clause-opens c = record {
   live = tt;
   found = tt;
   spared = subst (λ (files : Option (Files Memory)). SparesAt (room_image files) c.in-Err.error (Some c.in-Err.left))
-      (sym c.in-Some.is ∙ c.take.ensures.value)
-      (c.settle.new.files, c.settle.ensures.just c.if-not-settle.false, λ clean. (c.in-Err.ensures.cause clean, c.in-Err.ensures.unharmed clean));
+      (sym c.in-Some.is ∙ c.take.ensures.value) (
+        c.settle.new.files,
+        c.settle.ensures.just c.if-not-settle.false,
+        λ clean.
+            (c.in-Err.ensures.cause clean, c.in-Err.ensures.unharmed clean),
+      );
 }
 
 pub open_files-requires-clause-log : goal.open_files-requires-clause-log
