@@ -96,6 +96,13 @@ def still_taken(client, byte, seconds):
     return True
 
 
+def stop_for(serving, seconds):
+    """Stops the program for so long, as by Ctrl-Z and then `fg`."""
+    serving.process.send_signal(signal.SIGSTOP)
+    time.sleep(seconds)
+    serving.process.send_signal(signal.SIGCONT)
+
+
 def browser_there():
     """The browser that is there, or nothing."""
     found = next(filter(None, map(shutil.which, BROWSERS)), None)
@@ -114,6 +121,9 @@ class Kinds:
         self.slip, self.standings = (served_plainly(event, it)[0] for it in (GET_SLIP, GET_STANDINGS))
         self.after = copy.deepcopy(event)
         self.accepted, self.reported = (served_plainly(self.after, it)[0] for it in (POST, GET_SLIP))
+        # one that is refused before what it announces comes
+        self.too_long = POST[: POST.index(b"\r\n\r\n") + 4].replace(b"19", b"1000000")
+        self.refused = served_plainly(copy.deepcopy(event), self.too_long)[0]
 
     def all(self):
         return [
@@ -125,7 +135,10 @@ class Kinds:
             self.unread,
             self.sipping,
             self.crumbling,
+            self.sending_on,
             self.paused,
+            self.paused_after_its_answer,
+            self.paused_in_its_answer,
             *([self.browsed] if self.browser else []),
         ]
 
@@ -199,16 +212,25 @@ class Kinds:
 
     def crumbling(self, file):
         """One that is refused at once, and still sends on byte by byte, gets its answer."""
-        sent = POST[: POST.index(b"\r\n\r\n") + 4].replace(b"19", b"1000000")
         with Serving(self.program, file, 1) as serving, serving.client() as client:
-            sent_whole(client, sent)
+            sent_whole(client, self.too_long)
             yield "one that sends on byte by byte, all of it", still_taken(client, b"{", 0.6 * REST), True
             sent_to_the_end(client, b"")
-            yield "one that sends on byte by byte", received(client), served_plainly(
-                copy.deepcopy(self.event), sent
-            )[0]
+            yield "one that sends on byte by byte", received(client), self.refused
             yield "one that sends on byte by byte, the end", serving.end(), served(1)
         yield "one that sends on byte by byte, the file", rows_alone(file), rows_of(self.event)
+
+    def sending_on(self, file):
+        """One that goes on sending after its answer is let go after half a second."""
+        with Serving(self.program, file, 1) as serving, serving.client() as client:
+            sent_whole(client, self.too_long)
+            client.recv(1, socket.MSG_PEEK)
+            begun = time.monotonic()
+            while still_taken(client, b"{", 0.1 * REST) and time.monotonic() - begun < WHOLE:
+                pass
+            yield within("one that goes on sending", time.monotonic() - begun, REST, REST)
+            yield "one that goes on sending, the end", serving.end(), served(1)
+        yield "one that goes on sending, the file", rows_alone(file), rows_of(self.event)
 
     def paused(self, file):
         """The program is stopped in the middle of a score, as by Ctrl-Z, and goes on: the score is taken."""
@@ -227,6 +249,38 @@ class Kinds:
             yield "of a program that was stopped and goes on", received(client), self.accepted
             yield "of a program that was stopped and goes on, the end", serving.end(), served(1)
         yield "of a program that was stopped and goes on, the file", rows_alone(file), rows_of(self.after)
+
+    def paused_after_its_answer(self, file):
+        """The program is stopped while it reads on after its answer, and goes on: what still comes doesn't cost the client its answer."""
+        pauses = 0.1 * REST, 0.6 * REST, 4 * REST
+        with Serving(self.program, file, len(pauses)) as serving:
+            for pause in pauses:
+                with serving.client() as client:
+                    sent_whole(client, self.too_long)
+                    client.recv(1, socket.MSG_PEEK)
+                    time.sleep(0.1 * REST)
+                    stop_for(serving, pause)
+                    drip(client, b"{" * 500, 100, 0.06 * REST, lambda: False)
+                    sent_to_the_end(client, b"")
+                    yield f"of a program that was stopped for {pause} s after its answer", received(
+                        client
+                    ), self.refused
+            yield "of a program that was stopped after its answers, the end", serving.end(), served(
+                len(pauses)
+            )
+        yield "of a program that was stopped after its answers, the file", rows_alone(file), rows_of(
+            self.event
+        )
+
+    def paused_in_its_answer(self, file):
+        """The program is stopped three times while its answer waits for the client, and goes on: the whole answer comes."""
+        with Serving(self.program, file, 1) as serving, self.reader(serving) as client:
+            for _ in range(3):
+                time.sleep(0.3)
+                stop_for(serving, 0.05)
+            yield "of a program that was stopped in its answer", received(client), self.standings
+            yield "of a program that was stopped in its answer, the end", serving.end(), served(1)
+        yield "of a program that was stopped in its answer, the file", rows_alone(file), rows_of(self.event)
 
     def reader(self, serving):
         """A client that asks for the standings, and has room for few bytes of them, so that the writes that answer it have to wait for it."""

@@ -18,8 +18,8 @@
 --     and clients, and `run` clause `ends` of files that were empty.
 --   What is printed: a text or an answer on its stream, with the status that is due; or a write failed, a beginning is there, and the
 --     status is 3. How closing ends changes neither.
---   What is left (`PutsAway`, `RemainsOf`): files that hold one of the things that a crash could leave before, in the database file alone or,
---     if the log could not be copied, in the two; or a store that was not closed, with nothing lost.
+--   What is left (`PutsAway`, `RemainsOf`): files that hold one of the things that a crash could leave before, in the database file alone
+--     or, if the log could not be copied, in the two; or a store that was not closed, with nothing lost.
 --   `import`, by `Imports`: the names of the list in their order, until one is refused otherwise than with `NameTaken`; if the list can't
 --     be taken, nobody.
 --   `serve_clients`, `serve_all`, `serve_on`: a session of one score or none a client. If all were served, and it is known what clients
@@ -33,10 +33,11 @@
 -- `serve` listened before it says so.
 --
 -- Wrong bodies that bear on the theorem: `asks_twice`, `unopened_is_absent`; of clients and lists `serves_nobody`, `reads_nobody`,
--- `any_break_is_told`, `second_import_adds`; of what is left `never_closes`, `copies_after_a_fault`, `gives_back_what_was_not_copied`,
--- `copies_before_commit`, `empties_after_the_answer`, `starts_after_the_answer`, `empties_a_refused_file`, `starts_and_wants_memory`,
--- `drops_what_is_left`, `drops_a_refused_file`, `unread_event_let_go`, `help_opens_a_file`, `refused_limits_open_a_file`,
--- `forgets_an_open_file`. Only tests refuse those in `refused-by-tests`.
+-- `any_break_is_told`, `first_byte_twice`, `a_word_behind_the_answer`, `second_import_adds`; of what is left `never_closes`,
+-- `copies_after_a_fault`, `gives_back_what_was_not_copied`, `copies_before_commit`, `empties_after_the_answer`,
+-- `starts_after_the_answer`, `empties_a_refused_file`, `starts_and_wants_memory`, `drops_what_is_left`, `drops_a_refused_file`,
+-- `unread_event_let_go`, `help_opens_a_file`, `refused_limits_open_a_file`, `forgets_an_open_file`. Only tests refuse those in
+-- `refused-by-tests`.
 pub mod Setup
 pub mod Texts
 pub mod Input

@@ -150,6 +150,9 @@ pub trait Clients {
             (visit.reader.has_failed || visit.writer.has_failed) (got self.new) };
 }
 
+/// One side of a connection that a listener gives.
+type TcpClient<'a> = Client<&'a HostRuntime, TcpStream>;
+
 /// The clients of a listener. Nothing is known of them.
 #[derive(Drop)]
 pub struct Listening<'a> {
@@ -163,7 +166,7 @@ impl<'a> Listening<'a> {
     }
 
     /// The two sides of a client's connection, whose time begins.
-    fn sides(&self, stream: TcpStream) -> io::Result<Visit<Client<'a>, Client<'a>>>
+    fn sides(&self, stream: TcpStream) -> io::Result<Visit<TcpClient<'a>, TcpClient<'a>>>
         ensures { IfOk result (λ visit. (visit.reader.has_failed || visit.writer.has_failed) ≡ false) }
     {
         let begun = Instant::now(self.rt)?;
@@ -176,18 +179,18 @@ impl<'a> Listening<'a> {
 }
 
 impl<'a> Clients for Listening<'a> {
-    type Reader = Client<'a>;
+    type Reader = TcpClient<'a>;
 
-    type Writer = Client<'a>;
+    type Writer = TcpClient<'a>;
 
-    fn accept(&mut self) -> Result<Visit<Client<'a>, Client<'a>>, AcceptFault>
+    fn accept(&mut self) -> Result<Visit<TcpClient<'a>, TcpClient<'a>>, AcceptFault>
         ensures { IfOk result (λ visit. (visit.reader.has_failed || visit.writer.has_failed) ≡ false) }
     {
         let (stream, _address) = self.listener.accept().map_err(|_error| AcceptFault)?;
         self.sides(stream).map_err(|_error| AcceptFault)
     }
 
-    fn let_go(&mut self, visit: Visit<Client<'a>, Client<'a>>)
+    fn let_go(&mut self, visit: Visit<TcpClient<'a>, TcpClient<'a>>)
         ensures { self.new ≡ self.old }
     {
         let Visit { reader, writer } = visit;

@@ -35,6 +35,7 @@ mod setup;
 mod texts;
 
 pub use action::{Action, Task, file_and_action};
+pub use client::{Client, Connection};
 pub use clients::{AcceptFault, Clients, Side, Visit};
 pub use closing::{close, into_store};
 use complaints::complaint;
