@@ -4,6 +4,7 @@ import os
 import re
 
 from tools import TOP
+from tools.gate.contracts import code_in, lines_that_are_read
 
 # calls of the system that take a file away, or put another in its place
 REMOVES = re.compile(r"\b(remove_file|remove_dir\w*|rename|hard_link)\s*\(")
@@ -29,3 +30,22 @@ def test_another_place_is_seen(tmp_path):
     folder.mkdir(parents=True)
     (folder / "more.rt").write_text("let _ = fs::remove_file(rt, path);\nlet _ = fs::rename(rt, a, b);\n")
     assert removing(tmp_path) == ["er_more/src/inside/more.rt"] * 2
+
+
+def test_what_is_read_is_there():
+    assert all(count > 1 for _place, count in lines_that_are_read())
+
+
+def test_clauses_and_comments_are_no_code():
+    lines = [
+        "/// Says.",
+        "fn say()",
+        "    ensures {",
+        "        Says }",
+        "{",
+        "    // why",
+        "",
+        "    say_more()",
+        "}",
+    ]
+    assert code_in(lines) == ["fn say()", "{", "    say_more()", "}"]

@@ -1,4 +1,4 @@
-"""Reports how long the contracts of the crates are, so that none grows unseen. It refuses nothing.
+"""Reports how long the contracts of the crates are, so that none grows unseen, and which lines are only read. It refuses nothing.
 
 Of each crate: its functions, their clauses, the lines of these with what stands between them, the lines of bodies without comments and empty ones, and
 the lines of `.rt` and `.antt` files that have too many characters. Then the longest contracts; the clauses that recur to the letter, whatever their
@@ -21,6 +21,27 @@ LABEL = re.compile(r"^(ensures|requires|decreases) \w+ \{")
 RECORD = re.compile(r"^(?:pub )?record (\w+)")
 FIELD = re.compile(r"^  (?:pub )?(\w+) : ")
 LABEL_OF = re.compile(r"^(ensures|requires|decreases)(?: (\w+) \{)?")
+# What no clause ties to the system, so that docs/PROOF.md has it read: how each function or impl begins, by its file.
+READ = {
+    "event_reporter/src/main.rt": ["fn words(", "fn main("],
+    "er_cli/src/lib.rt": ["pub fn run<", "pub fn run_from<"],
+    "er_cli/src/host.rt": ["impl<'a, S: Start> System<", "impl<'a, S: Start> Host for System<"],
+    "er_cli/src/logs.rt": [
+        "fn log_path<",
+        "fn is_nothing<",
+        "impl<'a> SystemFolder<",
+        "impl Folder for SystemFolder<",
+    ],
+    "er_cli/src/clients.rt": ["impl<'a> Listening<", "impl<'a> Clients for Listening<"],
+    "er_cli/src/client.rt": [
+        "impl Connection for TcpStream",
+        "    fn time_for(",
+        "    fn read_rest(",
+        "    pub fn end(",
+    ],
+    "er_cli/src/texts.rt": ["impl<W: Write> Print for W"],
+    "er_desk/src/opening.rt": ["pub fn open_files<"],
+}
 
 
 @dataclasses.dataclass
@@ -166,6 +187,38 @@ def print_recurring(functions):
         print(f"{times:5}  {shape}")
 
 
+def lines_that_are_read():
+    """Each function and impl that is read, with its lines of code: without its clauses, comments and empty lines."""
+    for file, beginnings in READ.items():
+        with open(f"{TOP}/crates/{file}", encoding="utf-8") as text:
+            lines = text.read().split("\n")
+        for beginning in beginnings:
+            (at,) = (at for at, it in enumerate(lines) if it.startswith(beginning))
+            indent = " " * (len(beginning) - len(beginning.lstrip()))
+            end = next(end for end in range(at + 1, len(lines)) if lines[end].startswith(indent + "}"))
+            yield f"{file}:{at + 1} {beginning.strip()}", len(code_in(lines[at : end + 1]))
+
+
+def code_in(lines):
+    """These lines without clauses, comments and empty ones."""
+    found, at = [], 0
+    while at < len(lines):
+        if CLAUSE.match(lines[at]):
+            at = end_of_clause(lines, at)
+        else:
+            if lines[at].strip() and not lines[at].strip().startswith("//"):
+                found.append(lines[at])
+            at += 1
+    return found
+
+
+def print_read():
+    places = [*lines_that_are_read()]
+    for place, count in places:
+        print(f"{count:5}  {place}")
+    print(f"{sum(count for _place, count in places):5}  lines that are read, and of which no clause speaks")
+
+
 def fields_in(lines):
     """Each field of the records in these lines, after its record."""
     record = None
@@ -214,7 +267,15 @@ def main():
         metavar="COMMIT",
         help="name the clauses that are not as in this commit, and nothing else, as: --changed HEAD",
     )
+    words.add_argument(
+        "--read",
+        action="store_true",
+        help="count the lines that no clause ties to the system, and nothing else",
+    )
     given = words.parse_args()
+    if given.read:
+        print_read()
+        return
     if given.changed:
         print_changed(given.changed)
         return
