@@ -12,7 +12,7 @@ import subprocess
 import sys
 import tempfile
 
-from tools import TOP, commit_time
+from tools import TOP, commit_time, packages
 
 BUILT = "crates/event_reporter/out/event_reporter"
 # words of a line: what stands for what is given, and of two numbers the second with --long
@@ -111,6 +111,7 @@ def package(is_long):
     yield "package/test_version.py"
     yield "package/test_release.py"
     yield "package/test_wrapper.py"
+    yield "package/test_setup.py"
     if is_long:
         yield module("tests.package.systems")
 
@@ -193,12 +194,17 @@ def compiled():
 
 @functools.lru_cache(maxsize=None)
 def python():
-    """A Python that has pytest, with what phones are served by if there is one: another one on the path may lack what Debian's packages have installed."""
-    for modules in ("pytest, jinja2, waitress", "pytest"):
+    """Returns a Python that has all modules, or at least pytest, if there is one: another one on the path may lack what Debian's packages have installed."""
+    for modules in (packages.modules("tests", "companions").values(), ["pytest"]):
         for it in (sys.executable, "/usr/bin/python3"):
-            if subprocess.run([it, "-c", f"import {modules}"], stderr=subprocess.DEVNULL).returncode == 0:
+            if has_modules(it, modules):
                 return it
-    sys.exit("scripts/test: pytest is not installed: apt-get install python3-pytest")
+    return sys.executable
+
+
+def has_modules(of_python, modules):
+    looks = "import sys, importlib.util as it; sys.exit(not all(map(it.find_spec, sys.argv[1:])))"
+    return os.path.exists(of_python) and passes([of_python, "-c", looks, *modules])
 
 
 def passes(line):
@@ -206,6 +212,11 @@ def passes(line):
 
 
 def suites_pass(names, given, rest):
+    if not has_modules(python(), ["pytest"]):
+        if given.without:
+            return is_left_out(f"what pytest runs: {' '.join(names)}", "it is not installed")
+        print("scripts/test: pytest is not installed. Type: sh scripts/setup", file=sys.stderr)
+        return False
     line = [
         python(),
         "-B",
@@ -232,11 +243,15 @@ def filled(line, given, room):
     return [str(word[given.long]) if isinstance(word, tuple) else word.format(**values) for word in line]
 
 
+def compiler():
+    return os.environ.get("CC", "cc")
+
+
 def library(name, room):
     path, source = f"{room}/{name.strip('{}')}.so", f"tests/faults/{LIBRARIES[name]}"
     if not os.path.exists(path):
         subprocess.run(
-            [os.environ.get("CC", "cc"), "-O1", "-shared", "-fPIC", "-o", path, source, "-ldl"],
+            [compiler(), "-O1", "-shared", "-fPIC", "-o", path, source, "-ldl"],
             cwd=TOP,
             check=True,
         )
@@ -273,6 +288,8 @@ def step_passes(step, given, rest, room):
                 f"left out: {module_of(line)}, as {' '.join(rest)} chooses among cases of pytest", flush=True
             )
         return True
+    if shutil.which(compiler()) is None and any(it in line for it in LIBRARIES for line in lines_of(step)):
+        return all([is_left_out(module_of(line), "no C compiler is installed") for line in lines_of(step)])
     lines = [filled(line, given, room) for line in lines_of(step)]
     with concurrent.futures.ThreadPoolExecutor(len(lines)) as pool:
         return all([*pool.map(passes, lines)])
@@ -304,6 +321,9 @@ def main():
         "parts", nargs="+", metavar="PART", help=f"{', '.join(PARTS)}; or a script, or a case of a suite"
     )
     words.add_argument("--long", action="store_true", help="try much more, outside the test command")
+    words.add_argument(
+        "--without", action="store_true", help="go on without what is not installed, and say what is left out"
+    )
     words.add_argument(
         "--seed",
         type=int,

@@ -5,7 +5,7 @@ import io
 import os
 import time
 
-from tools import TOP
+from tools import TOP, packages
 from tools.package.listed import LINK
 from tools.package.made_from import epoch, glibc, maintainer, read, version
 
@@ -13,7 +13,7 @@ PACKAGE = "event-reporter"
 DOC = f"usr/share/doc/{PACKAGE}"
 # the lowest glibc that has the program's symbols, and the lowest Python that the companions run on
 DEPENDS = "libc6 (>= {glibc}), python3 (>= 3.8)"
-RECOMMENDS = "python3-jinja2, python3-waitress, python3-segno, python3-prompt-toolkit, python3-charset-normalizer, openssl"
+RECOMMENDS = ", ".join([*packages.modules("companions"), "openssl"])
 SUGGESTS = "www-browser, bash-completion, man-db"
 DESCRIPTION = """\
 pairings, standings and playoff of a Swiss tournament of Magic
