@@ -182,3 +182,13 @@ def test_the_test_command_begins_with_it(machine):
     machine.command("rt", 'echo "rt $*" >> "$ROOM/called"')
     status, _, said = machine.test()
     assert (status, INSTALL in said, machine.called()) == (3, True, []), "nothing is proved"
+
+
+def test_what_needs_no_program_is_tried_first(machine):
+    """If it fails, nothing is proved."""
+    for name in ("one", "two"):
+        machine.command(f"{name}-command", "")
+    machine.command("rt", 'echo "rt $*" >> "$ROOM/called"')
+    machine.write("a checkout/scripts/check-quick", "echo FAILED: a unit test\nexit 1\n")
+    assert machine.test()[:2] == (1, "FAILED: a unit test\n"), "how it ends"
+    assert machine.called() == [], "nothing is proved"
