@@ -16,7 +16,7 @@ from tests.support.waiting import PATIENCE, comes
 from tools import TOP
 
 PROGRAM = "crates/event_reporter/out/event_reporter"
-STAND_IN = '#!/bin/sh\necho "ran $#: $*"\n[ "${1:-}" != refused ] || { echo "refused 14 AlreadyReported" >&2; exit 1; }\n[ "${1:-}" != read ] || cat\n'
+STAND_IN = '#!/bin/sh\necho "ran $#: $*"\n[ "${1:-}" != refused ] || { echo "refused 14 AlreadyReported" >&2; exit 1; }\n[ "${1:-read}" != read ] || cat\n'
 NEW = STAND_IN.replace("ran", "new")
 FIRST = STAND_IN.replace("ran", "first")
 BUILD = f"""import os, time
@@ -27,8 +27,17 @@ def put(text):
     open("{PROGRAM}.new", "w").write(text)
     os.chmod("{PROGRAM}.new", 0o755)
     os.replace("{PROGRAM}.new", "{PROGRAM}")
+def is_there(process):
+    try:
+        os.kill(process, 0)
+        return True
+    except ProcessLookupError:
+        return False
 open("built", "a").write(f"{{os.getpid()}}\\n")
 wait_for("goes-on")
+# until it was seen that `rt try` has ended
+while os.path.exists("refuses") and not (os.path.exists("refused") and not is_there(int(open("refused").read()))):
+    time.sleep(0.01)
 if os.path.exists("fails"):
     raise SystemExit("er_rank: not proved")
 if os.path.exists("compiles"):
@@ -38,6 +47,25 @@ if os.path.exists("breaks"):
     raise SystemExit("LLVM did not compile what was proved")
 put({NEW!r})
 """
+# `rt try`: it answers the script, or refuses the program
+TRY = f"""#!{sys.executable}
+import os, sys, time
+if sys.argv[1:] != ["try"]:
+    raise SystemExit
+os.chdir("../..")
+script = sys.stdin.read()
+open("tried", "a").write(f"{{os.getpid()}}\\n")
+while os.path.exists("tries"):
+    time.sleep(0.01)
+if os.path.exists("refuses"):
+    open("refusing", "w").write(str(os.getpid()))
+    os.replace("refusing", "refused")
+    raise SystemExit("er_rank: a bad access\\nrun=none proved=no")
+print("tried:", script, end="", flush=True)
+print("checked: ended status=4\\nrun=ended status=4 runners=1 proved=no", file=sys.stderr)
+raise SystemExit(4)
+"""
+SCRIPT = "enrol\tAna\n"
 SOURCES = ("er_cli/src/lib.rt", "er_cli_tests/src/lib.rt", "event_reporter/src/main.rt")
 NEWER = "event_reporter: a source is newer than the program, which runs as it was built. To build it again: sh '{top}/scripts/build'\n"
 NO_TOOLCHAIN = "the toolchain (rt) is not on the PATH"
@@ -74,9 +102,10 @@ class Checkout:
             write(f"{self.top}/crates/{name}", "")
         for name in ("tools/__init__.py", "tools/gate/__init__.py"):
             write(f"{self.top}/{name}", "")
-        shutil.copy(f"{TOP}/tools/gate/first.py", f"{self.top}/tools/gate/first.py")
+        self.ask_for_memory(0)
         write(f"{self.top}/tools/gate/build.py", BUILD)
-        write(f"{room}/toolchain/rt", "#!/bin/sh\n", 0o755)
+        write(f"{self.top}/crates/event_reporter/src/main.rt", "")
+        write(f"{room}/toolchain/rt", TRY, 0o755)
         os.makedirs(f"{room}/bin")
         for name in TOOLS:
             os.symlink(
@@ -85,6 +114,12 @@ class Checkout:
             )
         if is_built:
             write(f"{self.top}/{PROGRAM}", STAND_IN, 0o755)
+
+    def ask_for_memory(self, kilobytes):
+        """Has `rt try` begin only if this is free, whatever this machine has."""
+        with open(f"{TOP}/tools/gate/first.py", encoding="utf-8") as it:
+            text = it.read()
+        write(f"{self.top}/tools/gate/first.py", text.replace("ROOM = 8_000_000\n", f"ROOM = {kilobytes}\n"))
 
     def path(self, has_toolchain):
         return {"PATH": f"{self.room}/bin" + (f":{self.room}/toolchain" if has_toolchain else "")}
@@ -140,13 +175,17 @@ class Checkout:
         for name in SOURCES:
             self.date(name, -60)
 
-    def builders(self):
+    def builders(self, name="built"):
         """The processes that have begun a build, the first one first."""
-        path = f"{self.top}/built"
+        path = f"{self.top}/{name}"
         return [int(it) for it in open(path, encoding="utf-8").read().split()] if os.path.exists(path) else []
 
     def builds(self):
         return len(self.builders())
+
+    def tries(self):
+        """The processes that have begun `rt try`."""
+        return self.builders("tried")
 
     def log(self):
         """The words of the log that is beside the program, or None."""
@@ -335,6 +374,91 @@ def test_a_build_stops_with_what_started_it(unbuilt):
         assert comes(lambda: not is_running(unbuilt.builders()[-1])), f"its build, by {number.name}"
     os.unlink(f"{unbuilt.top}/goes-on")
     assert (os.path.exists(f"{unbuilt.top}/{PROGRAM}"), unbuilt.log()) == (False, None), "nothing was built"
+
+
+def test_a_script_is_answered_before_the_proof(unbuilt):
+    """By `rt try`, with its status. The build goes on, and a call with words waits for it. What answered is nowhere kept."""
+    write(f"{unbuilt.top}/goes-on", "")
+    status, printed, said = unbuilt.run(has_toolchain=True, given=SCRIPT)
+    assert (status, printed) == (4, f"tried: {SCRIPT}"), "the answer"
+    assert ("proof is still under way" in said, "checked:" in said) == (True, False), "what is said of it"
+    assert comes(lambda: any(map(is_running, unbuilt.builders()))), "the build goes on"
+    assert (os.path.exists(f"{unbuilt.top}/{PROGRAM}"), unbuilt.log()) == (
+        False,
+        None,
+    ), "nothing is built by that"
+    os.unlink(f"{unbuilt.top}/goes-on")
+    assert (comes(unbuilt.log), unbuilt.run(given=SCRIPT)) == (
+        True,
+        (0, f"new 0: \n{SCRIPT}", ""),
+    ), "the proved program"
+    assert (unbuilt.builds(), len(unbuilt.tries())) == (1, 1), "one build, one try"
+
+
+def test_words_are_not_answered_before_the_proof(unbuilt):
+    assert unbuilt.run("x", has_toolchain=True, given=SCRIPT)[:2] == (0, "new 1: x\n"), "words"
+    assert (unbuilt.builds(), unbuilt.tries()) == (1, []), "nothing was tried"
+
+
+def test_nothing_is_tried_without_memory(unbuilt):
+    unbuilt.ask_for_memory(2**50)
+    assert unbuilt.run(has_toolchain=True, given=SCRIPT)[:2] == (0, f"new 0: \n{SCRIPT}"), "a script"
+    assert (unbuilt.builds(), unbuilt.tries()) == (1, []), "nothing was tried"
+
+
+def test_a_script_is_answered_by_the_program_that_is_there_first(unbuilt):
+    """Where `rt try` refuses the program, and where it takes longer than the build."""
+    for how in ("refuses", "tries"):
+        write(f"{unbuilt.top}/{how}", "")
+        status, printed, said = unbuilt.run(has_toolchain=True, given=SCRIPT)
+        assert (status, printed) == (0, f"new 0: \n{SCRIPT}"), f"rt try {how}"
+        assert ("a bad access" in said and "rt try has not answered" in said) == (
+            how == "refuses"
+        ), f"what is said if it {how}"
+        assert not is_running(unbuilt.tries()[-1]), "rt try has ended"
+        os.unlink(f"{unbuilt.top}/{PROGRAM}")
+        os.unlink(f"{unbuilt.top}/{how}")
+
+
+def test_a_script_has_no_answer_if_the_proof_fails_first(unbuilt):
+    for name in ("tries", "fails"):
+        write(f"{unbuilt.top}/{name}", "")
+    status, printed, said = unbuilt.run(has_toolchain=True, given=SCRIPT)
+    assert (status, printed, "build.log.failed says why" in said) == (3, "", True), "no answer"
+    assert not any(map(is_running, unbuilt.tries())), "rt try has ended"
+
+
+def test_a_script_that_is_stopped_stops_both(unbuilt):
+    for name in ("tries", "goes-on"):
+        write(f"{unbuilt.top}/{name}", "")
+    for number in (signal.SIGINT, signal.SIGTERM):
+        builds, tries = unbuilt.builds(), len(unbuilt.tries())
+        pipes = {"stdin": subprocess.DEVNULL, "stdout": subprocess.DEVNULL, "stderr": subprocess.DEVNULL}
+        with subprocess.Popen(
+            [f"{unbuilt.top}/event_reporter"], env=unbuilt.path(True), start_new_session=True, **pipes
+        ) as first:
+            assert comes(lambda: unbuilt.builds() > builds and len(unbuilt.tries()) > tries), "begun"
+            os.killpg(first.pid, number)
+            assert first.wait(PATIENCE) != 0, f"ended by {number.name}"
+        assert comes(
+            lambda: not is_running(unbuilt.builders()[-1]) and not is_running(unbuilt.tries()[-1])
+        ), f"both, by {number.name}"
+
+
+def test_a_script_that_is_typed_waits_for_the_program(unbuilt):
+    screen, terminal = pty.openpty()
+    os.write(screen, b"enrol\n\x04")
+    ran = subprocess.run(
+        [f"{unbuilt.top}/event_reporter"],
+        env=unbuilt.path(True),
+        stdin=terminal,
+        capture_output=True,
+        text=True,
+        timeout=PATIENCE,
+    )
+    assert (ran.returncode, ran.stdout, unbuilt.tries()) == (0, "new 0: \nenrol\n", []), "typed"
+    for side in (screen, terminal):
+        os.close(side)
 
 
 def test_it_says_that_it_is_alone(unbuilt):
