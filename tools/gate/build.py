@@ -1,6 +1,6 @@
 """Proves the crates that the program stands on and then the program, the lowest first, with all processors, and builds it. It says on
-standard error which crate it is at. Rattle's own compiler takes less than a minute, so that its program is there first. LLVM's, which is faster, takes
-its place.
+standard error which crate it is at. Each compiler's process proves the program and compiles it. Rattle's own compiler is the quicker, so that its program
+is there first. LLVM's, which is faster, takes its place.
 
 In a fresh checkout all is proved from nothing, as by `rt ci`: each crate over what those below it state, and over none of their proofs. What a
 crate came to is kept with what it was made from: its sources, the toolchain, and the libraries below as they were written. A later build takes
@@ -20,10 +20,14 @@ from tools import TOP
 from tools.gate import toolchain
 
 rt = toolchain.load()
+# A command that ends well, without what it says after the verdict: rt wants that in the last line, and Rattle's own compiler goes on.
+UP_TO_VERDICT = """said=$("$@" 2>&1) || { status=$?; printf '%s\n' "$said"; exit $status; }; printf '%s\n' "$said" | sed '/^logic=proved /q'"""
 
 
 class Crate(rt.Crate):
-    """A crate as `rt ci` takes it, but that a library isn't asked for contracts which no call meets, and that the program of one compiler is kept."""
+    """A crate as `rt ci` takes it, but that a library isn't asked for contracts which no call meets, that the program is proved by each compiler's process,
+    so that nothing has to be written between proof and program, and that the program of one compiler is kept.
+    """
 
     def prove_library(self, flags):
         shutil.rmtree(os.path.dirname(self.rlib), ignore_errors=True)
@@ -38,25 +42,23 @@ class Crate(rt.Crate):
             return super().prove(*commands)
         return max(self.call(rt.rtlib.RATTLE, *it) for it in commands)
 
-    def compile_by(self, backend, words, to):
-        """Has each compiler's program take the place of the one that is there, first that of Rattle's own. What runs keeps its file."""
-        if backend == "rattle":
-            # it was there before LLVM's
-            return 0
-        self.replace_by(
-            "rattle", words, to, "the program can be run now. LLVM's takes its place in some minutes"
-        )
-        return self.replace_by("llvm", words, to, "the program is LLVM's")
+    def prove_program(self, flags):
+        """Has each compiler's program take the place of the one that is there, first that of Rattle's own. If that one fails, LLVM's says why."""
+        self.replace_by("rattle", flags, "the program can be run now. LLVM's takes its place in some minutes")
+        return self.replace_by("llvm", flags, "the program is LLVM's")
 
-    def replace_by(self, backend, words, to, said):
-        """Says that there is a program by this compiler, if there is one, and puts it there."""
-        status = super().compile_by(backend, words, f"{to}.new")
-        made = f"{self.folder}/{to}.new{rt.BACKENDS[backend]}"
-        if status == 0 and os.path.isfile(made):
+    def replace_by(self, backend, flags, said):
+        """Proves the program from nothing, compiles it, and puts it there. What runs keeps its file."""
+        made = f"out/{self.name}.new{rt.BACKENDS[backend]}"
+        words = [*self.words(flags, keeps=False), "--toolchain", f"{rt.KIT}/toolchain"]
+        with up_to_verdict() if backend == "rattle" else contextlib.nullcontext():
+            status = self.prove(["build", *words, "--backend", backend, "-o", f"{made}.o"])
+        status = status or self.link(f"{made}.o", made)
+        if status == 0:
             print(f"event_reporter: {said}", file=sys.stderr, flush=True)
-            os.replace(made, f"{self.folder}/{to}")
+            os.replace(f"{self.folder}/{made}", self.product())
         with contextlib.suppress(FileNotFoundError):
-            os.remove(f"{made}.o")
+            os.remove(f"{self.folder}/{made}.o")
         return status
 
     def product(self):
@@ -87,6 +89,17 @@ class Crate(rt.Crate):
             return None
 
 
+@contextlib.contextmanager
+def up_to_verdict():
+    """Has rt read what its commands say up to the verdict."""
+    guarded = rt.rtlib.guarded
+    rt.rtlib.guarded = lambda: [*guarded(), "sh", "-c", UP_TO_VERDICT, ""]
+    try:
+        yield
+    finally:
+        rt.rtlib.guarded = guarded
+
+
 def height(crate, wanted):
     """The text of the crate and of the longest way above it."""
     return crate.count(rb"\n") + max((height(it, wanted) for it in wanted if crate in it.below()), default=0)
@@ -102,7 +115,7 @@ def prove(crate, jobs, is_anew):
         # the program is a few functions over all libraries, and each process reads them all
         flags = ["--jobs", "1" if crate.is_program else str(jobs)]
         if crate.is_program:
-            status = crate.ci(flags, False)
+            status = crate.prove_program(flags)
         elif is_anew:
             status = crate.prove_library(flags)
         else:
