@@ -1,5 +1,5 @@
 """Proves the crates that the program stands on and then the program, the lowest first, with all processors, and builds it. It says on
-standard error which crate it is at. Each compiler's process proves the program and compiles it. Rattle's own compiler is the quicker, so that its program
+standard error which crate it is at, and about how long it still takes; so does the file `building` beside the program, while it is at work. Each compiler's process proves the program and compiles it. Rattle's own compiler is the quicker, so that its program
 is there first. LLVM's, which is faster, takes its place.
 
 In a fresh checkout all is proved from nothing, as by `rt ci`: each crate over what those below it state, and over none of their proofs. What a
@@ -12,16 +12,24 @@ import contextlib
 import copy
 import json
 import os
+import re
 import shutil
 import sys
 import tempfile
 
 from tools import TOP
 from tools.gate import toolchain
+from tools.gate.progress import Progress
 
 rt = toolchain.load()
 # A command that ends well, without what it says after the verdict: rt wants that in the last line, and Rattle's own compiler goes on.
 UP_TO_VERDICT = """said=$("$@" 2>&1) || { status=$?; printf '%s\n' "$said"; exit $status; }; printf '%s\n' "$said" | sed '/^logic=proved /q'"""
+# Adds the processor seconds of a command to a file of the crate in whose folder it runs, and ends as it did: rt has to see that it was killed.
+TIMED = (
+    """"$@"; status=$?; [ ! -d out ] || times >> out/times; [ $status != 137 ] || kill -9 $$; exit $status"""
+)
+# how often the file `building` is written, and the same is said if nothing else was
+SECONDS_OF_A_NOTE, SECONDS_OF_A_LINE = 10, 180
 
 
 class Crate(rt.Crate):
@@ -51,7 +59,7 @@ class Crate(rt.Crate):
         """Proves the program from nothing, compiles it, and puts it there. What runs keeps its file."""
         made = f"out/{self.name}.new{rt.BACKENDS[backend]}"
         words = [*self.words(flags, keeps=False), "--toolchain", f"{rt.KIT}/toolchain"]
-        with up_to_verdict() if backend == "rattle" else contextlib.nullcontext():
+        with run_by(UP_TO_VERDICT) if backend == "rattle" else contextlib.nullcontext():
             status = self.prove(["build", *words, "--backend", backend, "-o", f"{made}.o"])
         status = status or self.link(f"{made}.o", made)
         if status == 0:
@@ -77,7 +85,17 @@ class Crate(rt.Crate):
     def keep(self, said):
         """Keeps what the toolchain said of it, for as long as it would say it again."""
         with open(f"{self.folder}/out/made.json", "w", encoding="utf-8") as it:
-            json.dump({"from": self.made_from(), "said": said}, it)
+            json.dump({"from": self.made_from(), "said": said, "seconds": self.seconds()}, it)
+
+    def seconds(self):
+        """Returns the processor seconds that its commands took, and forgets them."""
+        try:
+            with open(f"{self.folder}/out/times", encoding="utf-8") as it:
+                found = re.findall(r"(\d+)m([\d.]+)s", it.read())
+        except FileNotFoundError:
+            return None
+        os.remove(it.name)
+        return sum(60 * int(minutes) + float(seconds) for minutes, seconds in found)
 
     def said_before(self):
         """What the toolchain said when this was made, or None if anything is not as it was then."""
@@ -90,10 +108,10 @@ class Crate(rt.Crate):
 
 
 @contextlib.contextmanager
-def up_to_verdict():
-    """Has rt read what its commands say up to the verdict."""
+def run_by(script):
+    """Has each command that rt calls run by a script for sh."""
     guarded = rt.rtlib.guarded
-    rt.rtlib.guarded = lambda: [*guarded(), "sh", "-c", UP_TO_VERDICT, ""]
+    rt.rtlib.guarded = lambda: [*guarded(), "sh", "-c", script, ""]
     try:
         yield
     finally:
@@ -112,6 +130,8 @@ def prove(crate, jobs, is_anew):
         return crate.name, True, said
     with tempfile.TemporaryFile("a+", errors="replace") as crate.out:
         os.makedirs(f"{crate.folder}/out", exist_ok=True)
+        with contextlib.suppress(FileNotFoundError):
+            os.remove(f"{crate.folder}/out/times")
         # the program is a few functions over all libraries, and each process reads them all
         flags = ["--jobs", "1" if crate.is_program else str(jobs)]
         if crate.is_program:
@@ -166,26 +186,54 @@ def prove_all(wanted, is_anew):
                 file=sys.stderr,
                 flush=True,
             )
-    started = len(proved)
+    told = Telling(wanted, left)
     with concurrent.futures.ThreadPoolExecutor(rt.processors()) as lanes:
         while len(proved) < len(wanted):
             ready = are_ready(left, proved)
             for crate, jobs in zip(ready, shares(ready, rt.processors() - sum(running.values()))):
                 left.remove(crate)
-                started += 1
-                print(
-                    f"event_reporter: proving {crate.name}, {started} of {len(wanted)}",
-                    file=sys.stderr,
-                    flush=True,
-                )
+                told.begins(crate.name, jobs)
                 running[lanes.submit(prove, crate, jobs, is_anew)] = jobs
-            for it in concurrent.futures.wait(running, return_when=concurrent.futures.FIRST_COMPLETED).done:
+            ended = concurrent.futures.wait(
+                running, timeout=SECONDS_OF_A_NOTE, return_when=concurrent.futures.FIRST_COMPLETED
+            )
+            for it in ended.done:
                 del running[it]
                 name, is_proved, said = it.result()
                 print(f"== {name}\n{said}", end="", flush=True)
                 if not is_proved:
                     sys.exit(f"event_reporter: could not prove {name}")
                 proved.add(name)
+                told.ends(name)
+            told.note()
+
+
+class Telling(Progress):
+    """Says how far a build is on standard error, and in the file `building` for who looks later."""
+
+    def __init__(self, wanted, left):
+        super().__init__({it.name: {below.name for below in it.below()} for it in left}, rt.processors())
+        self.count, self.of, self.said = len(wanted) - len(left), len(wanted), self.clock()
+        self.file = f"{wanted[-1].folder}/out/building"
+
+    def begins(self, name, jobs):
+        super().begins(name, jobs)
+        self.count += 1
+        self.say(name)
+
+    def say(self, names):
+        self.said = self.clock()
+        line = f"event_reporter: proving {names}, {self.count} of {self.of}; {self.text()}"
+        print(line, file=sys.stderr, flush=True)
+
+    def note(self):
+        names = " ".join(self.running)
+        with open(self.file, "w", encoding="utf-8") as it:
+            it.write(
+                f"{self.of - len(self.left)} of {self.of} crates are proved, now {names}; {self.text()}\n"
+            )
+        if self.clock() - self.said > SECONDS_OF_A_LINE:
+            self.say(names)
 
 
 def main():
@@ -199,7 +247,13 @@ def main():
     Crate.allowed, Crate.cuts_libraries = rt.handles_of(TOP), is_anew
     wanted = [*program.below(), program]
     held = rt.rtlib.lock(wanted)
-    prove_all(wanted, is_anew)
+    os.makedirs(f"{program.folder}/out", exist_ok=True)
+    try:
+        with run_by(TIMED):
+            prove_all(wanted, is_anew)
+    finally:
+        with contextlib.suppress(FileNotFoundError):
+            os.remove(f"{program.folder}/out/building")
     for it in held:
         os.close(it)
 

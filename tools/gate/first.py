@@ -24,7 +24,7 @@ STOPPING = (signal.SIGINT, signal.SIGTERM, signal.SIGHUP)
 # The last line of `rt try` if the program ended, with its status.
 ENDED = re.compile(rb"^run=ended status=(\d+) .*proved=no\n\Z", re.M)
 UNPROVED = """this answer is of a program whose proof is still under way. It takes 10 to 50 minutes, and a call with words waits for it.
-event_reporter: which crates are proved by now: grep -h '^==' '{folder}'/build.log.[0-9]*"""
+event_reporter: how far it is: cat '{folder}/building'"""
 
 
 def say(text):

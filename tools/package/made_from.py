@@ -5,6 +5,7 @@ import subprocess
 
 import tools
 from tools import TOP
+from tools.gate.progress import under_way
 
 PROGRAM = "crates/event_reporter/out/event_reporter"
 PACKED = ("README.md", "CHANGELOG.md", "docs", "examples", "companions", "tools/package")
@@ -52,8 +53,15 @@ def glibc():
     return max(re.findall(rb"\0GLIBC_2\.(\d+)(?=\0)", read(PROGRAM)), key=int).decode()
 
 
+def must_not_be_building():
+    how_far = under_way()
+    if how_far:
+        raise Unfit(f"a build of the program is at work: {how_far}. Once it has ended: bash scripts/release")
+
+
 def must_be_built():
     if not os.access(f"{TOP}/{PROGRAM}", os.X_OK):
+        must_not_be_building()
         raise Unfit("the program isn't built. Build it: sh scripts/build")
 
 

@@ -5,7 +5,16 @@ import hashlib
 import re
 import shutil
 
-from tools.package.made_from import PROGRAM, Unfit, commit, output, read, version, why_draft
+from tools.package.made_from import (
+    PROGRAM,
+    Unfit,
+    commit,
+    must_not_be_building,
+    output,
+    read,
+    version,
+    why_draft,
+)
 
 LOG = "crates/event_reporter/out/build.log"
 ENDED = "out/gate"
@@ -50,6 +59,7 @@ def verdicts_on(program):
     except FileNotFoundError:
         log = b""
     if f"\nprogram {program}\n".encode() not in log:
+        must_not_be_building()
         raise Unfit(
             "there is no log of this program's build. In a fresh clone: bash scripts/test, or sh scripts/build"
         )
