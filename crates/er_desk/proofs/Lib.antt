@@ -1,6 +1,7 @@
 mod Folding
 mod Histories
 mod Turns
+mod Migrating
 mod Running
 mod Plain
 mod Adopting

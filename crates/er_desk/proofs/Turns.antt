@@ -4,7 +4,7 @@ use Rattle.std.proofs.Common.{Result, Ok, Err, IfOk, IfErr, IsErrAnd, IsTrue, Is
 use Rattle.std.proofs.lemmas.Bool.Decides.{nat_tests}
 use Rattle.std.specs.List.{AllByRecursion}
 use Rattle.sqlite_trees.specs.declared.store.Store.{Ghosts}
-use Rattle.sqlite.specs.{Table.Table, Effect.Database, State.{State, IsUnchanged}}
+use Rattle.sqlite.specs.{Table.Table, Tree.Trees, Effect.Database, State.{State, IsUnchanged}}
 use Rattle.er_event.specs.declared.changes.Change.{Change}
 use Rattle.er_event.specs.{declared.refusals.Cause.Cause, declared.commands.Command.Command, declared.commands.Receipt.Receipt}
 use Rattle.er_event.specs.{declared.refusals.Refusal.Refusal}
@@ -12,6 +12,7 @@ use Rattle.er_event.specs.{declared.refusals.Refusal.TheVariants.{Memory, Budget
 use Rattle.er_event.specs.{declared.refusals.Refusal.TheVariants.NeedsReopen, Event.EventValue}
 use Rattle.er_rules.specs.{Late.is_late, Refusing.IsOfRules, Step.{Answers, NeedsMoreSteps}}
 use Rattle.er_store.specs.{Fault.IsFault, Reading.KeepsTables, Representing.{IsOther, HasTablesAt, KeepsOthers}, Layout.Layout}
+use Rattle.er_store.specs.Representing.{RepresentsNow, AfterCrash, Either, AreTreesOf, IsStoredIn, IsStoredAmong}
 use Rattle.er_desk.specs.{Reply.{Reply, reply_to, receipt, IsDue}}
 use Rattle.er_desk.specs.{Desk.{DeskState, Outcome, Stops, HoldsOwnEvent, IsOwn, placed_of, state, desk_state}}
 use Rattle.er_desk.specs.{Asking.DeskCall, Headline.RecoversJust, inside.Taking.TakesChange, declared.desk.Desk.Desk}
@@ -237,6 +238,20 @@ keeps_then version old mid new one two = record {
         rows = keeps_rows l old mid new old.schema.tables first.rows (rw one.schema at then.rows);
       };
 }
+
+-- tables that a crash left as they were hold the event that they represented
+pub still_stored : {v : ℕ} {s : State} {e : EventValue} {n : ℕ} → RepresentsNow v s e n → {trees : Trees} → AreTreesOf s.now trees
+    → IsStoredIn v e n trees
+still_stored {s = s} shows same = rw same (record { schema = s.now.schema; sound = shows.sound; represents = shows.represents })
+
+-- so a crash leaves this event or that one, whatever else is in the file
+pub stored_either : {v : ℕ} {old : State} (new : State) {e next : EventValue} {n m : ℕ} → RepresentsNow v old e n
+    → AfterCrash new (Either (AreTreesOf old.now) (IsStoredAmong v old.now next m))
+    → AfterCrash new (Either (IsStoredIn v e n) (IsStoredIn v next m))
+stored_either new shows leaves clean trees may = elim (leaves clean trees may) [
+  | inl same ↦ inl (still_stored shows same)
+  | inr made ↦ inr made.stored
+]
 
 pub unchanged_keeps : (old new : State) → IsUnchanged old new → KeepsTables old new
 unchanged_keeps old new same settled is_open = (same.0.now_is, same.0.committed_is ∙ sym settled)

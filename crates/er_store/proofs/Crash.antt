@@ -2,7 +2,8 @@
 use Rattle.er_store.proofs.Prelude.{common_steps, refl, ◌≡◌, ◌⊎◌, inl, inr, ℕ, true, false, IsTrue, sym, ◌∙◌, arith, Trees, State}
 use Rattle.er_store.proofs.Prelude.{HasCleanDisk, Survives, survives_then, EventValue, IsStoredIn, RepresentsNow, IsReady, List, Result}
 use Rattle.er_store.proofs.Prelude.{Err}
-use Rattle.er_store.proofs.Prelude.{true≢false, Row, Error, Held, state, Ghosts, KeepsTables, Stays}
+use Rattle.er_store.proofs.Prelude.{true≢false, ap, Row, Error, Held, state, Ghosts, KeepsTables, Stays}
+use Rattle.er_store.proofs.Prelude.{AreTreesOf, IsStoredAmong, KeepsOthers, Database}
 use Rattle.sqlite.specs.{State.{KeepsCommit, IsRolledBack, ExecutesInside}, Steps.FailsToCommit}
 use Rattle.er_store.specs.Representing.{Either}
 use Rattle.sqlite.specs.State as sqlite
@@ -23,30 +24,53 @@ pub shows_leaves_in : (v : ℕ) (s : State) (e : EventValue) (serial : ℕ) → 
     → s.may_leave trees → IsStoredIn v e serial trees
 shows_leaves_in v s e serial settles shows trees may = grind (arith, common_steps)
 
+-- with nothing pending, that is what the connection shows
+pub leaves_now : {v : ℕ} {e : EventValue} {serial : ℕ} (s : State) → Settles s → RepresentsNow v s e serial → (trees : Trees)
+    → s.may_leave trees → AreTreesOf s.now trees
+leaves_now s settles shows trees may = settles trees shows.is_open may ∙ ap (λ (d : Database). d.trees) (sym shows.settled)
+
 pub only : {A : Type 0} → A ⊎ ⊥ → A
 only (inl a) = a
 only (inr none) = absurd none
+
+-- what the commit leaves, beside the other tables of the database before it
+among : {v : ℕ} {last : State} {e : EventValue} {s : ℕ} {old : Database} → IsReady v last e s → KeepsOthers v old last.now
+    → {trees : Trees} → trees ≡ last.now.trees → IsStoredAmong v old e s trees
+among {last = last} ready others same = rw same (record {
+  stored = record { schema = last.now.schema; sound = ready.sound; represents = ready.represents };
+  others = others;
+})
 
 module _ {v : ℕ} {last end : State} {e : EventValue} {s : ℕ} (ready : IsReady v last e s) where
   -- once it is committed, the connection sees it
   pub written : sqlite.Shows last end last.now last.now false → RepresentsNow v end e s
   written done = grind (arith, common_steps)
 
-  -- a crash leaves what it could before, or the event
-  pub leaves_either : (start : State) (Before : Trees → Type 0) → ((trees : Trees) → start.may_leave trees → Before trees)
-      → Survives start last (λ _. ⊥) → Survives last end (λ db. db ≡ last.now.trees)
-      → HasCleanDisk end → (trees : Trees) → end.may_leave trees → Either Before (IsStoredIn v e s) trees
-  leaves_either start Before before quiet commits clean trees may = grind (arith, common_steps)
+  -- and the other tables are those of this database
+  module _ {old : Database} (others : KeepsOthers v old last.now) where
+    -- a crash leaves the event among them
+    pub leaves_among : Settles end → sqlite.Shows last end last.now last.now false → (trees : Trees) → end.may_leave trees
+        → IsStoredAmong v old e s trees
+    leaves_among settles done trees may =
+        among ready others (settles trees done.is_open may ∙ ap (λ (d : Database). d.trees) done.committed_is)
+
+    -- and if the commit fails, what it could before, or that
+    pub leaves_either : (start : State) → ((trees : Trees) → start.may_leave trees → AreTreesOf old trees)
+        → Survives start last (λ _. ⊥) → Survives last end (λ db. db ≡ last.now.trees)
+        → HasCleanDisk end → (trees : Trees) → end.may_leave trees → Either (AreTreesOf old) (IsStoredAmong v old e s) trees
+    leaves_either start before quiet commits clean trees may = elim (commits.crash clean trees may) [
+      | inl was ↦ inl (before trees (only (quiet.crash (was_clean commits clean) trees was)))
+      | inr same ↦ inr (among ready others same)
+    ]
 
 pub survives_both : {a b c : State} → Survives a b (λ _. ⊥) → Survives b c (λ _. ⊥) → Survives a c (λ _. ⊥)
 survives_both {a} {b} {c} = survives_then a b c (λ _. ⊥) (λ _. ⊥) (λ _. ⊥) (λ _ db none. none) (λ _ db none. none)
 
--- if nothing was committed, a crash leaves the event before the change
-pub leaves_old : (v : ℕ) (old end : State) (e : EventValue) (s : ℕ) → Settles old → RepresentsNow v old e s
+-- if nothing was committed, a crash leaves what was there before the change
+pub leaves_old : {v : ℕ} {e : EventValue} {s : ℕ} (old end : State) → Settles old → RepresentsNow v old e s
     → Survives (record old { in_transaction = true }) end (λ _. ⊥) → HasCleanDisk end → (trees : Trees) → end.may_leave trees
-    → IsStoredIn v e s trees
-leaves_old v old end e s settles was quiet clean trees may =
-    shows_leaves_in v old e s settles was trees (only (quiet.crash clean trees may))
+    → AreTreesOf old.now trees
+leaves_old old end settles was quiet clean trees may = leaves_now old settles was trees (only (quiet.crash clean trees may))
 
 -- ---- what a step within a transaction leaves of the last commit, whatever it does and however it ends
 

@@ -38,3 +38,4 @@ mod Refusals
 mod Loaded
 mod TableLemmas
 mod Lending
+mod Stopping

@@ -107,7 +107,7 @@ pub use Rattle.er_store.specs.Slip.{named_pairings}
 pub use Rattle.er_store.specs.Layout.{Layout, IsThere, table_at}
 pub use Rattle.er_store.specs.Representing.{Represents, RepresentsAt, HasTables, HasTablesAt, RepresentsWith, IsOther, CanRead, IsKeyed}
 pub use Rattle.er_store.specs.Representing.{RepresentsNow}
-pub use Rattle.er_store.specs.Representing.{RepresentsIn, IsStoredIn}
+pub use Rattle.er_store.specs.Representing.{RepresentsIn, IsStoredIn, AreTreesOf, IsStoredAmong}
 pub use Rattle.er_store.specs.Representing.{rows_in, rows_with, shown_of, KeepsRest, KeepsOthers, HasRows, AreKeyed, AreKeyedAt}
 pub use Rattle.er_store.specs.Tables.{player_tree}
 pub use Rattle.er_store.specs.Tables.{no_schema, pairing, bracket, read_event, player, tally, set_serial, set_phase, set_dropped, set_score}

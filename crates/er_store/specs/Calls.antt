@@ -10,7 +10,7 @@ use Rattle.er_event.specs.declared.refusals.Refusal.TheVariants.{NeedsReopen}
 use Rattle.er_store.specs.declared.Store.{Store}
 use Rattle.er_store.specs.Fault.{IsFault, IsReadFault}
 use Rattle.er_store.specs.Reading.{KeepsTables}
-use Rattle.er_store.specs.Representing.{IsStoredIn, RepresentsNow, AfterCrash, Either, KeepsOthers}
+use Rattle.er_store.specs.Representing.{AreTreesOf, IsStoredAmong, RepresentsNow, AfterCrash, Either, KeepsOthers}
 use Rattle.er_store.specs.Store.{store_state, store_version, needs_reopen}
 
 -- Which refusals a call has, and whether the store has stopped with them:
@@ -76,11 +76,14 @@ pub record WritesChange {S : Type 0} (g : Ghosts S) (e next : EventValue) (seria
   pub others : HasCleanDisk (store_state g new) → RepresentsNow (store_version old) (store_state g old) e serial
       → IsTrue (store_state g new).is_open
       → KeepsOthers (store_version old) (store_state g old).now (store_state g new).now
-  -- what was acknowledged is there, also after a crash, and what was cut off is there whole or not at all
+  -- What was acknowledged is there, also after a crash, and the other tables stay. What was cut off is there so, whole, or not at all: then
+  -- nothing has changed.
   pub written : HasCleanDisk (store_state g new) → RepresentsNow (store_version old) (store_state g old) e serial
       → OnOk result (RepresentsNow (store_version old) (store_state g new) next (serial + 1))
   pub acknowledged : RepresentsNow (store_version old) (store_state g old) e serial
-      → OnOk result (AfterCrash (store_state g new) (IsStoredIn (store_version old) next (serial + 1)))
+      → OnOk result (AfterCrash (store_state g new)
+      (IsStoredAmong (store_version old) (store_state g old).now next (serial + 1)))
   pub crash : IsFalse (needs_reopen old) → RepresentsNow (store_version old) (store_state g old) e serial
       → AfterCrash (store_state g new)
-      (Either (IsStoredIn (store_version old) e serial) (IsStoredIn (store_version old) next (serial + 1)))
+      (Either (AreTreesOf (store_state g old).now)
+      (IsStoredAmong (store_version old) (store_state g old).now next (serial + 1)))

@@ -18,11 +18,12 @@
 --     if no foreign key there names one of them. If something called `event` can be read, it is refused and no table changes.
 --   `Store::adopt`, by `Adopts`, and `load`: of tables that represent a sound event just that event and its serial; of any others an event
 --     that they show, sound but for its seeds, or the first table at fault. Nothing is written.
---   `Store::write`, by `WritesChange`: a change and the next serial in one transaction, whole or not at all, after a crash too.
+--   `Store::write`, by `WritesChange`: a change and the next serial in one transaction, whole or not at all, after a crash too. The tables
+--     of others have the rows that they had.
 --   `Store::slip`, `tallies`, `meetings`, by `OnlyReads` and `Finds`: of tables that represent a sound event, what the event has. Nothing
 --     is written in a file of any schema.
 --   `Store::migrate`, by `MovesTables`: from version 1 to 2 in one transaction, whole in one or in the other at every exit, and nothing
---     leads back. `Store::version` says which.
+--     leads back. Whatever stood beside the five stays, after a crash too. `Store::version` says which.
 --   `laws::shown_is_stored`, `stored_represents`, `represented_is_read`: a crash leaves what the tables represent, and what a crash left
 --     represents it again.
 --

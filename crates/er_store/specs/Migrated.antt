@@ -1,5 +1,5 @@
 -- What a migration promises.
-use Rattle.std.specs.Prelude.{◌≡◌, ◌⊎◌, ℕ, [], ◌∷◌, IsTrue, IsFalse, IsOk, IsErr, OnOk, MatchResult, Result, codes}
+use Rattle.std.specs.Prelude.{◌≡◌, ℕ, [], ◌∷◌, IsTrue, IsFalse, IsOk, IsErr, OnOk, MatchResult, Result, codes}
 use Rattle.std.specs.List.{AllByRecursion}
 use Rattle.sqlite_catalog.specs.Change.{is_used}
 use Rattle.sqlite_rules.specs.Lists.{Has}
@@ -16,7 +16,7 @@ use Rattle.er_store.specs.declared.Store.{Store}
 use Rattle.er_store.specs.Calls.{StoreCall, StopsByFault}
 use Rattle.er_store.specs.Beside.{NoneAwaits, StandsFirst}
 use Rattle.er_store.specs.Layout.{Layout}
-use Rattle.er_store.specs.Representing.{HasTablesAt, IsOther, IsStoredIn, RepresentsNow, AfterCrash}
+use Rattle.er_store.specs.Representing.{AreTreesOf, HasTablesAt, IsOther, IsStoredIn, RepresentsNow, AfterCrash, Either}
 use Rattle.er_store.specs.Store.{store_state, store_version, needs_reopen}
 
 -- no foreign key waits for a table `player2`
@@ -44,9 +44,10 @@ pub record MigratesBeside (old new : Database) : Type 0 where
 abbrev pub IsTaken : Database → Type 0
 IsTaken db = IsTrue (is_used db.schema (codes "player2"))
 
--- what a crash may leave at any exit: version 1 or version 2, whole
-abbrev pub IsStoredWhole : EventValue → ℕ → Trees → Type 0
-IsStoredWhole e serial trees = IsStoredIn 1 e serial trees ⊎ IsStoredIn 2 e serial trees
+-- what a crash leaves represents it in version 2, whole, and what stood in this database stays
+pub record IsMovedAmong (old : Database) (e : EventValue) (serial : ℕ) (trees : Trees) : Type 0 where
+  pub stored : IsStoredIn 2 e serial trees
+  pub beside : MigratesBeside old (record { schema = stored.schema; trees = trees })
 
 -- The tables of the event are moved to version 2, in one transaction. The serial is the event's, and stays.
 pub record MovesTables {S : Type 0} (g : Ghosts S) (e : EventValue) (serial : ℕ)
@@ -57,9 +58,10 @@ pub record MovesTables {S : Type 0} (g : Ghosts S) (e : EventValue) (serial : �
   pub version : MatchResult result (λ _. store_version new ≡ 2) (λ _. store_version new ≡ store_version old)
   -- a store of version 2 that runs is answered `Ok`, and stays as it is
   pub second : IsFalse (needs_reopen old) → store_version old ≡ 2 → IsOk result × (new ≡ old)
-  -- it is refused if the name `player2` is taken, and a crash then leaves version 1
+  -- it is refused if the name `player2` is taken, and a crash then leaves what was there
   pub taken : IsFalse (needs_reopen old) → store_version old ≡ 1 → HasCleanDisk (store_state g new) → IsTaken (store_state g old).now
-      → IsErr result × (RepresentsNow 1 (store_state g old) e serial → AfterCrash (store_state g new) (IsStoredIn 1 e serial))
+      → IsErr result × (RepresentsNow 1 (store_state g old) e serial
+      → AfterCrash (store_state g new) (AreTreesOf (store_state g old).now))
   -- tables that represent the event in version 1 then represent it in version 2, totals included, and `player` has no rows
   pub migrated : HasCleanDisk (store_state g new) → store_version old ≡ 1 → CanMigrate (store_state g old) e serial
       → OnOk result (IsMigrated (store_state g new) e serial)
@@ -67,7 +69,7 @@ pub record MovesTables {S : Type 0} (g : Ghosts S) (e : EventValue) (serial : �
   pub beside : HasCleanDisk (store_state g new) → store_version old ≡ 1 → CanMigrate (store_state g old) e serial
       → OnOk result (MigratesBeside (store_state g old).now (store_state g new).now)
   pub acknowledged : store_version old ≡ 1 → CanMigrate (store_state g old) e serial
-      → OnOk result (AfterCrash (store_state g new) (IsStoredIn 2 e serial))
-  -- at every exit a crash leaves version 1 or version 2, whole
+      → OnOk result (AfterCrash (store_state g new) (IsMovedAmong (store_state g old).now e serial))
+  -- at every exit a crash leaves what was there, or version 2, whole, beside what stood
   pub crash : IsFalse (needs_reopen old) → store_version old ≡ 1 → CanMigrate (store_state g old) e serial
-      → AfterCrash (store_state g new) (IsStoredWhole e serial)
+      → AfterCrash (store_state g new) (Either (AreTreesOf (store_state g old).now) (IsMovedAmong (store_state g old).now e serial))

@@ -147,3 +147,12 @@ pub record KeepsRest (layout : Layout) (old new : Database) : Type 0 where
 pub record KeepsOthers (version : ℕ) (old new : Database) : Type 0 where
   pub schema : new.schema ≡ old.schema
   pub rest : (layout : Layout) → layout.version ≡ version → HasTablesAt layout old.schema → KeepsRest layout old new
+
+-- what a crash leaves is this database as it was
+abbrev pub AreTreesOf : Database → Trees → Type 0
+AreTreesOf db trees = trees ≡ db.trees
+
+-- what a crash leaves represents the event, in this version, and the tables of others have the rows that they had in this database
+pub record IsStoredAmong (version : ℕ) (old : Database) (e : EventValue) (serial : ℕ) (trees : Trees) : Type 0 where
+  pub stored : IsStoredIn version e serial trees
+  pub others : KeepsOthers version old (record { schema = stored.schema; trees = trees })

@@ -6,8 +6,8 @@ ghost use Rattle.sqlite.specs.Order.{Row};
 ghost use Rattle.sqlite.specs.Held.{state};
 ghost use Rattle.er_event.specs.declared.players.Player.{Player};
 ghost use Rattle.er_event.specs.Event.{EventValue};
-ghost use Rattle.er_store.specs.Migrated.{CanMigrate, IsMigrated, IsStoredWhole, IsTaken, MigratesBeside};
-ghost use Rattle.er_store.specs.Representing.{AfterCrash, IsStoredIn, RepresentsNow};
+ghost use Rattle.er_store.specs.Migrated.{CanMigrate, IsMigrated, IsMovedAmong, IsTaken, MigratesBeside};
+ghost use Rattle.er_store.specs.Representing.{AfterCrash, AreTreesOf, Either, RepresentsNow};
 ghost use Rattle.er_store.specs.inside.Moving.{HaveNumbers, Move, IsMoving, IsMoved, MayMove};
 ghost use Rattle.er_store.specs.inside.Looking.{Transacts};
 ghost use Rattle.er_store.specs.inside.Within.{tx_state, Lends, Achieves, Inside};
@@ -84,12 +84,15 @@ pub fn migrate_tables<S: Alter>(conn: &mut Connection<S>, event: &Event) -> Resu
         → CanMigrate (state S.Store conn.old) event.now s
         → OnOk result (MigratesBeside (state S.Store conn.old).now (state S.Store conn.new).now) }
     ensures acknowledged { (s : ℕ) → CanMigrate (state S.Store conn.old) event.now s
-        → OnOk result (AfterCrash (state S.Store conn.new) (IsStoredIn 2 event.now s)) }
+        → OnOk result (AfterCrash (state S.Store conn.new)
+        (IsMovedAmong (state S.Store conn.old).now event.now s)) }
     ensures crash { (s : ℕ) → CanMigrate (state S.Store conn.old) event.now s
-        → AfterCrash (state S.Store conn.new) (IsStoredWhole event.now s) }
+        → AfterCrash (state S.Store conn.new)
+        (Either (AreTreesOf (state S.Store conn.old).now)
+        (IsMovedAmong (state S.Store conn.old).now event.now s)) }
     ensures taken { HasCleanDisk (state S.Store conn.new) → IsTaken (state S.Store conn.old).now
         → IsErr result × ((s : ℕ) → RepresentsNow 1 (state S.Store conn.old) event.now s
-        → AfterCrash (state S.Store conn.new) (IsStoredIn 1 event.now s)) }
+        → AfterCrash (state S.Store conn.new) (AreTreesOf (state S.Store conn.old).now)) }
 {
     let mut tx = conn.transaction();
     move_players(&mut tx, event)?;

@@ -19,7 +19,8 @@ ghost use Rattle.er_event.specs.declared.matches.Match.{Match};
 ghost use Rattle.er_store.specs.inside.Steps.{IsStage};
 ghost use Rattle.er_store.specs.Tables.{no_schema, tally_schema};
 ghost use Rattle.er_store.specs.Layout.{Layout};
-ghost use Rattle.er_store.specs.Representing.{RepresentsAt, IsStoredIn, IsNew, RepresentsNow, AfterCrash, Either, KeepsOthers, CanRead};
+ghost use Rattle.er_store.specs.Representing.{RepresentsAt, IsNew, RepresentsNow, KeepsOthers, CanRead};
+ghost use Rattle.er_store.specs.Representing.{AfterCrash, AreTreesOf, Either, IsStoredAmong};
 ghost use Rattle.er_store.specs.Representing.{ReadsEvent};
 ghost use Rattle.er_store.specs.Beside.{HoldsBeside, IsStoredBeside};
 ghost use Rattle.er_store.specs.inside.Making.{IsReadyBeside};
@@ -354,11 +355,13 @@ pub fn write_tables<S: Alter>(
         × KeepsOthers version (state S.Store conn.old).now (state S.Store conn.new).now) }
     ensures acknowledged { RepresentsNow version (state S.Store conn.old) event.now serial
         → OnOk result (AfterCrash (state S.Store conn.new)
-        (IsStoredIn version (after event.now change.now) (serial + 1))) }
+        (IsStoredAmong version (state S.Store conn.old).now (after event.now change.now)
+        (serial + 1))) }
     ensures crash { RepresentsNow version (state S.Store conn.old) event.now serial
         → AfterCrash (state S.Store conn.new)
-        (Either (IsStoredIn version event.now serial)
-        (IsStoredIn version (after event.now change.now) (serial + 1))) }
+        (Either (AreTreesOf (state S.Store conn.old).now)
+        (IsStoredAmong version (state S.Store conn.old).now (after event.now change.now)
+        (serial + 1))) }
 {
     let mut tx = conn.transaction();
     change_event(&mut tx, version, event, change, serial)?;

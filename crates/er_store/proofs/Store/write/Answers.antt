@@ -1,7 +1,7 @@
 use Rattle.er_store.proofs.Prelude.{◌≡◌, refl, rules, List, [], ◌∷◌, Trees, Table, Database, KeepsOthers, IsOther, Layout, ℕ}
-use Rattle.er_store.proofs.Prelude.{HasCleanDisk, KeepsTables, Err, EventValue, Ghosts, Held, IsFault, IsStoredIn, RepresentsNow, IsTrue}
-use Rattle.er_store.proofs.Prelude.{IsFalse}
-use Rattle.er_store.proofs.Prelude.{◌+◌, ◌∙◌, true≢false, sym, subst}
+use Rattle.er_store.proofs.Prelude.{HasCleanDisk, Err, EventValue, Ghosts, Held, IsFault, RepresentsNow, IsTrue}
+use Rattle.er_store.proofs.Prelude.{IsFalse, AreTreesOf, IsStoredAmong}
+use Rattle.er_store.proofs.Prelude.{◌+◌, subst}
 use Rattle.er_event.specs.declared.refusals.Refusal.{Refusal}
 use Rattle.sqlite.specs.Held as sqlite
 use Rattle.sqlite.specs.declared.error.Error.{Error}
@@ -9,7 +9,7 @@ use Rattle.er_store.specs.{Calls.WritesChange, Representing.{Either, AfterCrash}
 use Rattle.er_store.specs.declared.Store.{Store}
 use Rattle.er_store.specs.Store as store
 use Rattle.std.specs.List.{AllByRecursion}
-use Rattle.er_store.proofs.Lending.{still_ok}
+use Rattle.er_store.proofs.{Lending.still_ok, Stopping.stopped_call}
 use Rattle.er_store.proofs.Store.write.Goals as goal
 
 same_rest : (l : Layout) (trees : Trees) (tables : List Table)
@@ -41,28 +41,19 @@ failed_writes : {S : Type 0} (g : Ghosts S) {e next : EventValue} {serial : ℕ}
     {error : Error}
     → Transacts {A = Unit {0}} g (store.connection old) (Err error) conn
     → (RepresentsNow (store.store_version old) (store.store_state g old) e serial → AfterCrash (sqlite.state g conn)
-    (Either (IsStoredIn (store.store_version old) e serial) (IsStoredIn (store.store_version old) next (serial + 1))))
+    (Either (AreTreesOf (store.store_state g old).now)
+    (IsStoredAmong (store.store_version old) (store.store_state g old).now next (serial + 1))))
     → IsFalse (store.needs_reopen old) → store.connection new ≡ conn → IsFault why → IsTrue (store.needs_reopen new)
     → store.store_version new ≡ store.store_version old
     → WritesChange g e next serial old (Err why) new
 failed_writes g old new conn failed crash runs same fault stopped version =
     let late : HasCleanDisk (store.store_state g new) → HasCleanDisk (sqlite.state g conn) =
     subst (λ (h : Held _). HasCleanDisk (sqlite.state g h)) same in
-    let keeps : HasCleanDisk (store.store_state g new) → KeepsTables (store.store_state g old) (store.store_state g new) =
-    λ clean. subst (λ (h : Held _). KeepsTables (store.store_state g old) (sqlite.state g h)) (sym same) (failed.call.kept (late clean)) in
+    let as_call = stopped_call g old new conn failed runs same fault stopped in
     record {
-      as_call = record {
-        call = record {
-          clean = λ now. failed.call.clean (late now);
-          limit = subst (λ (h : Held _). (sqlite.state g h).step_limit ≡ (store.store_state g old).step_limit) (sym same)
-              failed.call.limit;
-          kept = keeps;
-        };
-        waits = λ stopped. absurd (true≢false (sym stopped ∙ runs));
-        stops = λ runs. (fault, stopped);
-      };
+      as_call = as_call;
       version = version;
-      others = λ now was is_open. keeps_same _ _ _ (keeps now was.settled is_open).0;
+      others = λ now was is_open. keeps_same _ _ _ (as_call.call.kept now was.settled is_open).0;
       written = λ now was. tt;
       acknowledged = λ was. tt;
       crash = λ runs was now trees may.

@@ -1,7 +1,7 @@
 use Rattle.er_store.proofs.Prelude.{inl, rules, true, ◌≡◌, ℕ, on_ok_weaker, HasCleanDisk, state, sym}
 use Rattle.er_store.proofs.Prelude.{true≢false}
 use Rattle.er_store.proofs.{Lending.{on_ok_later, dropped, committed}, Crash.{was_clean, survives_both}}
-use Rattle.er_store.proofs.{Crash.{shows_leaves_in, leaves_old}, MovedCrash.{moved_written, moved_beside, moved_leaves}}
+use Rattle.er_store.proofs.{Crash.{leaves_now, leaves_old}, MovedCrash.{moved_written, moved_beside, moved_stays, moved_leaves}}
 use Rattle.er_store.specs.{Migrated.CanMigrate, inside.Moving.IsMoved}
 use Rattle.er_store.proofs.migration.migrate_tables.Given as given
 use Rattle.er_store.proofs.migration.migrate_tables.Goals as goal
@@ -31,9 +31,13 @@ returns-clause-beside g c clean s may =
 
 pub returns-clause-acknowledged : goal.returns-clause-acknowledged
 returns-clause-acknowledged g c s may = on_ok_later _ _ c.commit.result (λ clean.
-    on_ok_weaker c.commit.result (λ shown. shows_leaves_in 2 (state g.S.Store c.conn-2-1.given.0) _ _
-    (λ db is_open may. g.met.S.Store.settled c.conn-2-1.given.0.store db is_open may) shown.shows)
-    (returns-clause-migrated g c clean s may))
+    let end = c.commit.new.self.0 in
+    let same : end ≡ c.conn-2-1.given.0 = search rules in
+    let late = rw (← same) at clean in
+    let it = moved g c late s may in
+    rw (← same) (on_ok_weaker c.commit.result (λ done.
+    moved_stays it (λ db is_open left. g.met.S.Store.settled end.store db is_open left) done.1)
+    (c.commit.ensures.ok late)))
 
 pub returns-clause-crash : goal.returns-clause-crash
 returns-clause-crash g c s may clean trees left =
@@ -41,7 +45,7 @@ returns-clause-crash g c s may clean trees left =
     let same : c.commit.new.self.0 ≡ c.conn-2-1.given.0 = search rules in
     let late = rw (← same) at clean in
     moved_leaves (moved g c late s may) (record old { in_transaction = true })
-    (shows_leaves_in 1 old _ _ (λ db is_open left. g.met.S.Store.settled c.args.conn.now.store db is_open left) may.shows)
+    (leaves_now old (λ db is_open left. g.met.S.Store.settled c.args.conn.now.store db is_open left) may.shows)
     (rw c.transaction-tx.ensures.begun at c.move_players.ensures.lends.stays.survives)
     c.commit.ensures.survives late trees (rw (← same) at left)
 
@@ -53,7 +57,7 @@ returns-in_err-move_players-clause-crash g c s may clean trees left =
     let same : end ≡ c.conn-1.given.0 = search rules in
     let step = rw c.transaction-tx.ensures.begun at c.move_players.ensures.lends.stays.survives in
     let quiet = survives_both step c.drop-tx.ensures.survives in
-    inl (leaves_old 1 old (state g.S.Store end) _ _
+    inl (leaves_old old (state g.S.Store end)
     (λ db is_open left. g.met.S.Store.settled c.args.conn.now.store db is_open left) may.shows
     quiet (rw (← same) at clean) trees (rw (← same) at left))
 
@@ -66,7 +70,7 @@ returns-in_err-move_players-clause-taken g c clean used =
     let step = rw c.transaction-tx.ensures.begun at c.move_players.ensures.lends.stays.survives in
     let quiet = survives_both step c.drop-tx.ensures.survives in (
       search rules,
-      λ s shows clean trees left. leaves_old 1 old (state g.S.Store end) _ _
+      λ s shows clean trees left. leaves_old old (state g.S.Store end)
           (λ db is_open left. g.met.S.Store.settled c.args.conn.now.store db is_open left) shows
           quiet (rw (← same) at clean) trees (rw (← same) at left),
     )

@@ -4,7 +4,7 @@ use Rattle.er_store.proofs.Prelude.{KeepsOthers, KeepsRest, IsReady, Layout, Has
 use Rattle.er_store.proofs.Prelude.{all_weaker}
 use Rattle.er_store.proofs.Layouts.{same_trees, same_others}
 use Rattle.er_store.proofs.{Lending.{on_ok_later, dropped, committed}, Crash.{was_clean, survives_both, leaves_old, written}}
-use Rattle.er_store.proofs.Crash.{leaves_either, shows_leaves_in}
+use Rattle.er_store.proofs.Crash.{leaves_among, leaves_either, leaves_now}
 use Rattle.er_store.proofs.transactions.write_tables.Given as given
 use Rattle.er_store.proofs.transactions.write_tables.Goals as goal
 
@@ -49,16 +49,22 @@ returns-clause-written g c clean was =
 
 pub returns-clause-acknowledged : goal.returns-clause-acknowledged
 returns-clause-acknowledged g c was = on_ok_later _ _ c.commit.result (λ clean.
-    on_ok_weaker c.commit.result (λ shown. shows_leaves_in c.args.version (state g.S.Store c.conn-2-1.given.0) _ _
-    (λ db is_open may. g.met.S.Store.settled c.conn-2-1.given.0.store db is_open may) shown.0) (returns-clause-written g c clean was))
+    let end = c.commit.new.self.0 in
+    let same : end ≡ c.conn-2-1.given.0 = search rules in
+    let late = rw (← same) at clean in
+    let it = ready g c late was in
+    rw (← same) (on_ok_weaker c.commit.result (λ done.
+    leaves_among it.0 it.1 (λ db is_open left. g.met.S.Store.settled end.store db is_open left) done.1)
+    (c.commit.ensures.ok late)))
 
 pub returns-clause-crash : goal.returns-clause-crash
 returns-clause-crash g c was clean trees may =
     let old = state g.S.Store c.args.conn.now in
     let same : c.commit.new.self.0 ≡ c.conn-2-1.given.0 = search rules in
     let late = rw (← same) at clean in
-    leaves_either (ready g c late was).0 (record old { in_transaction = true }) _
-    (shows_leaves_in c.args.version old _ _ (λ db is_open left. g.met.S.Store.settled c.args.conn.now.store db is_open left) was)
+    let it = ready g c late was in
+    leaves_either it.0 it.1 (record old { in_transaction = true })
+    (leaves_now old (λ db is_open left. g.met.S.Store.settled c.args.conn.now.store db is_open left) was)
     (rw c.transaction-tx.ensures.begun at c.change_event.ensures.lends.stays.survives)
     c.commit.ensures.survives late trees (rw (← same) at may)
 
@@ -70,7 +76,7 @@ returns-in_err-change_event-clause-crash g c was clean trees may =
     let same : end ≡ c.conn-1.given.0 = search rules in
     let step = rw c.transaction-tx.ensures.begun at c.change_event.ensures.lends.stays.survives in
     let quiet = survives_both step c.drop-tx.ensures.survives in
-    inl (leaves_old c.args.version old (state g.S.Store end) _ _
+    inl (leaves_old old (state g.S.Store end)
     (λ db is_open left. g.met.S.Store.settled c.args.conn.now.store db is_open left) was
     quiet (rw (← same) at clean) trees (rw (← same) at may))
 

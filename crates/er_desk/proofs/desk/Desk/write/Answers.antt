@@ -4,7 +4,7 @@ use Rattle.er_rules.specs.Sound.{IsSound}
 use Rattle.er_store.specs.Representing.{IsStoredIn, RepresentsNow}
 use Rattle.er_store.specs.Store as tables
 use Rattle.er_desk.specs.Desk.{version_in}
-use Rattle.er_desk.proofs.Turns.{desk_state_same, untaken}
+use Rattle.er_desk.proofs.Turns.{desk_state_same, stored_either, untaken}
 use Rattle.er_desk.proofs.desk.Desk.write.Goals as goal
 
 -- there is no memory for the event after the change, so nothing is touched
@@ -44,8 +44,8 @@ returns-in-Ok g c =
       acknowledged = λ shows clean trees may.
           subst (λ (v : ℕ). IsStoredIn v c.in_ok-next.next (old.serial + 1) trees) (sym wrote.version)
           (subst (λ (e : EventValue). IsStoredIn (version_in old) e (old.serial + 1) trees) same
-          (c.in-Ok.ensures.acknowledged shows clean trees may));
-      crash = wrote.crash c.requires.runs;
+          (c.in-Ok.ensures.acknowledged shows clean trees may).stored);
+      crash = λ shows. stored_either (tables.store_state g.S.Store c.write.new.self) shows (wrote.crash c.requires.runs shows);
     }
 
 -- the store has not, and has stopped
@@ -65,5 +65,5 @@ returns-in-Err g c =
       refused = inr (desk_state_same _ _ _ _ _ _ _ refl wrote.version stops.1, stops.0);
       kept = c.in-Err.ensures.as_call.call.kept;
       acknowledged = λ shows. tt;
-      crash = wrote.crash c.requires.runs;
+      crash = λ shows. stored_either (tables.store_state g.S.Store c.write.new.self) shows (wrote.crash c.requires.runs shows);
     }
