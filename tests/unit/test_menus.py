@@ -1,4 +1,5 @@
 """The menus of prompt_toolkit, fed with keys."""
+import asyncio
 import threading
 import time
 
@@ -84,5 +85,10 @@ def test_what_was_said_keeps_the_screen_until_something_is_typed():
         menus = Menus(offers)
         buffer = menus.lines.default_buffer
         assert not buffer.complete_while_typing()
-        buffer.insert_text("w")
+
+        # what is typed starts tasks, in the loop of a prompt that reads
+        async def typed():
+            buffer.insert_text("w")
+
+        asyncio.run(typed())
         assert buffer.complete_while_typing()

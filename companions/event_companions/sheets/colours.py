@@ -45,7 +45,7 @@ def mixed(one: str, other: str, share: float) -> str:
 
 def linear(part: int) -> float:
     share = part / 255
-    return share / 12.92 if share <= 0.04045 else ((share + 0.055) / 1.055) ** 2.4  # type: ignore[no-any-return]
+    return share / 12.92 if share <= 0.04045 else float(((share + 0.055) / 1.055) ** 2.4)
 
 
 def luminance(colour: str) -> float:

@@ -12,8 +12,8 @@ import secrets
 import time
 import urllib.parse
 from functools import lru_cache
-from http.cookies import CookieError, SimpleCookie
-from typing import Optional
+from http.cookies import CookieError, Morsel, SimpleCookie
+from typing import Mapping, Optional
 
 from event_companions.core.reading import read_whole
 from event_companions.core.rosters import DELIMITERS, columns_of, tidy
@@ -118,7 +118,7 @@ class Window(Pages):
 
     def is_known(self, environ: Environ) -> bool:
         try:
-            cookies: SimpleCookie[str] = SimpleCookie(environ.get("HTTP_COOKIE", "")[:4000])
+            cookies: Mapping[str, Morsel[str]] = SimpleCookie(environ.get("HTTP_COOKIE", "")[:4000])
         except CookieError:
             return False
         return self.name in cookies and hmac.compare_digest(cookies[self.name].value, self.key)
