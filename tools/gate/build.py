@@ -194,6 +194,7 @@ def prove_all(wanted, is_anew):
                 left.remove(crate)
                 told.begins(crate.name, jobs)
                 running[lanes.submit(prove, crate, jobs, is_anew)] = jobs
+            told.note()
             ended = concurrent.futures.wait(
                 running, timeout=SECONDS_OF_A_NOTE, return_when=concurrent.futures.FIRST_COMPLETED
             )
@@ -205,7 +206,6 @@ def prove_all(wanted, is_anew):
                     sys.exit(f"event_reporter: could not prove {name}")
                 proved.add(name)
                 told.ends(name)
-            told.note()
 
 
 class Telling(Progress):
