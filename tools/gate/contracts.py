@@ -217,7 +217,9 @@ def print_read():
     places = [*lines_that_are_read()]
     for place, count in places:
         print(f"{count:5}  {place}")
-    print(f"{sum(count for _place, count in places):5}  lines that are read: no clause ties what they do to the system")
+    print(
+        f"{sum(count for _place, count in places):5}  lines that are read: no clause ties what they do to the system"
+    )
 
 
 def fields_in(lines):
