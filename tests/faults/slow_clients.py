@@ -251,20 +251,19 @@ class Kinds:
         yield "of a program that was stopped and goes on, the file", rows_alone(file), rows_of(self.after)
 
     def paused_after_its_answer(self, file):
-        """The program is stopped while it reads on after its answer, and goes on: what still comes doesn't cost the client its answer."""
+        """The program is stopped while it reads on after its answer, and goes on: what still comes is taken for half a second, and the answer is whole."""
         pauses = 0.1 * REST, 0.6 * REST, 4 * REST
         with Serving(self.program, file, len(pauses)) as serving:
             for pause in pauses:
+                what = f"of a program that was stopped for {pause} s after its answer"
                 with serving.client() as client:
                     sent_whole(client, self.too_long)
                     client.recv(1, socket.MSG_PEEK)
                     time.sleep(0.1 * REST)
                     stop_for(serving, pause)
-                    drip(client, b"{" * 500, 100, 0.06 * REST, lambda: False)
+                    yield f"{what}, what still comes", still_taken(client, b"{", 0.3 * REST), True
                     sent_to_the_end(client, b"")
-                    yield f"of a program that was stopped for {pause} s after its answer", received(
-                        client
-                    ), self.refused
+                    yield what, received(client), self.refused
             yield "of a program that was stopped after its answers, the end", serving.end(), served(
                 len(pauses)
             )
@@ -275,6 +274,7 @@ class Kinds:
     def paused_in_its_answer(self, file):
         """The program is stopped three times while its answer waits for the client, and goes on: the whole answer comes."""
         with Serving(self.program, file, 1) as serving, self.reader(serving) as client:
+            client.recv(1, socket.MSG_PEEK)
             for _ in range(3):
                 time.sleep(0.3)
                 stop_for(serving, 0.05)
