@@ -194,7 +194,7 @@ def lines_that_are_read():
         with open(f"{TOP}/crates/{file}", encoding="utf-8") as text:
             lines = text.read().split("\n")
         for beginning in beginnings:
-            (at,) = (at for at, it in enumerate(lines) if it.startswith(beginning))
+            (at,) = (at for at, line in enumerate(lines) if line.startswith(beginning))
             indent = " " * (len(beginning) - len(beginning.lstrip()))
             end = next(end for end in range(at + 1, len(lines)) if lines[end].startswith(indent + "}"))
             yield f"{file}:{at + 1} {beginning.strip()}", len(code_in(lines[at : end + 1]))
